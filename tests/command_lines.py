@@ -68,6 +68,16 @@ def faulty_values(command: str, option: str, low: int, high: int) -> Iterator[Ca
     yield faulty(f'{command} {option} 1 {option} 1', f'the argument {takes} {ONCE}', usage)
 
 
+def faulty_flags(command: str, flag: str) -> Iterator[Case]:
+    """An option that takes no value."""
+    usage = f'{command} [OPTIONS]'
+    yield unexpected(f'{command} {flag} now', 'now', usage)
+    yield faulty(f'{command} {flag}=true', f"unexpected value 'true' for '{flag}' found; no more were expected",
+                 f'{command} {flag}')
+    yield faulty(f'{command} {flag} {flag}', f"the argument '{flag}' {ONCE}", usage)
+    yield early(f'{flag} {command}', flag, command)
+
+
 def faulty_programs() -> Iterator[Case]:
     yield faulty('', "'timetravel' requires a subcommand but one was not provided\n"
                  '  [subcommands: replay, run, session, log, help]', '<COMMAND>')
@@ -83,16 +93,8 @@ def faulty_runs(command: str) -> Iterator[Case]:
     yield faulty(f'{command} --batch 0', "invalid value '0' for '--batch <N>': 0 is not in 1..=10000")
     yield unexpected(f'{command} --batch 16 now', 'now', usage)
     yield early(f'--batch 16 {command}', '--batch', command)
-    yield unexpected(f'{command} --closed now', 'now', usage)
-    yield faulty(f'{command} --closed=true', "unexpected value 'true' for '--closed' found; no more were expected",
-                 f'{command} --closed')
-    yield faulty(f'{command} --closed --closed', f"the argument '--closed' {ONCE}", usage)
-    yield early(f'--closed {command}', '--closed', command)
-    yield unexpected(f'{command} --why now', 'now', usage)
-    yield faulty(f'{command} --why=true', "unexpected value 'true' for '--why' found; no more were expected",
-                 f'{command} --why')
-    yield faulty(f'{command} --why --why', f"the argument '--why' {ONCE}", usage)
-    yield early(f'--why {command}', '--why', command)
+    for flag in '--closed', '--why', '--diff':
+        yield from faulty_flags(command, flag)
 
 
 def faulty_rounds() -> Iterator[Case]:
@@ -102,9 +104,15 @@ def faulty_rounds() -> Iterator[Case]:
     yield unexpected('replay --rounds 1', '--rounds', 'replay [OPTIONS]')
 
 
+def faulty_dry_runs() -> Iterator[Case]:
+    yield from faulty_flags('replay', '--dry')
+    yield unexpected('run --dry', '--dry', 'run [OPTIONS]')
+
+
 def faulty_sessions() -> Iterator[Case]:
     usage = 'session [OPTIONS]'
-    for word in '--quick', 'now', '--batch', '--rounds', '--closed', '--why', '--version', 'session', 'replay':
+    for word in ('--quick', 'now', '--batch', '--rounds', '--closed', '--why', '--diff', '--dry', '--version', 'session',
+                 'replay'):
         yield unexpected(f'session {word}', word, usage)
     yield unexpected('session --batch 16', '--batch', usage)
     yield unexpected('session --rounds 8', '--rounds', usage)
@@ -132,7 +140,7 @@ def refused() -> Iterator[Case]:
     yield from faulty_programs()
     for command in 'replay', 'run':
         yield from faulty_runs(command)
-    for some in faulty_rounds, faulty_sessions, faulty_logs:
+    for some in faulty_rounds, faulty_dry_runs, faulty_sessions, faulty_logs:
         yield from some()
 
 

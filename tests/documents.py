@@ -4,7 +4,9 @@ memory they take.
   tests/reports/, examples/   NAME.json with the report that it has, NAME.report. Options of the command
                               line stand in NAME.options. A document whose report is the same in every
                               order is run in threads, too; NAME.run has a line of options for each
-                              further run in threads. NAME.why is the report with `--why`
+                              further run in threads. NAME.why is the report with `--why`, NAME.diff
+                              that with `--why --diff`, and NAME.dry that of `replay` with
+                              `--dry --why --diff`
   tests/refused/              faults, each with the document that has it, or a part of it
 """
 import resource
@@ -23,6 +25,7 @@ from tests.support.progress import progress
 from tests.support.texts import blocks_of, copies, faults_of, sevens, shown_by_help, text_of
 
 COMMANDS = ['replay', 'run']
+TOLD = {'why': ['--why'], 'diff': ['--why', '--diff'], 'dry': ['--dry', '--why', '--diff']}
 ACCOUNTS = ('{"name":"acct","columns":[{"name":"id","kind":"int"},'
             '{"name":"owner","kind":"text","partition":true},{"name":"bal","kind":"int"}]}')
 
@@ -56,9 +59,11 @@ def documents() -> Iterator[Case]:
                 yield reported(document, report, 'run', *options)
             for words in options_of(f'{name}.run'):
                 yield reported(document, report, 'run', words)
-            if (ROOT / f'{name}.why').exists():
-                for command in COMMANDS if has_one_order(document) else ['replay']:
-                    yield reported(document, f'{name}.why', command, [*options[0], '--why'])
+            for kind, words in TOLD.items():
+                if (ROOT / f'{name}.{kind}').exists():
+                    for command in COMMANDS if has_one_order(document) and kind != 'dry' else ['replay']:
+                        further = [word for word in words if word not in options[0]]
+                        yield reported(document, f'{name}.{kind}', command, [*options[0], *further])
 
 
 def options() -> Iterator[Case]:

@@ -20,8 +20,8 @@ SESSIONS, LINES, FORGETS = int(os.environ.get('FORGETTING_SESSIONS', 200)), 300,
 OF_THE_MODEL = 20  # sessions that the model answers, too
 STATUS = {'status': True}
 STEPS = 10_000  # that a line may ask for
-REFUSALS = {'select': ('no generation', 'forgotten'), 'why': ('no generation',),
-            'begin': ('repairing', 'no slot')}  # of what is gone
+REFUSALS = {'select': ('no generation', 'forgotten'), 'why': ('no generation',), 'diff': ('no generation',),
+            'begin': ('repairing', 'no slot'), 'would': ('repairing', 'no slot')}  # of what is gone
 Answer = dict[str, Any]
 Session: Any = session_model.Session
 Random: Any = session_model.Random
@@ -94,7 +94,7 @@ def is_refused_at_once(answer: Answer) -> bool:
 
 
 def slots_edited(line: Any) -> set[int]:
-    return {edit.get('cancel', edit.get('replace')) for edit in line['begin']}
+    return {edit.get('cancel', edit.get('replace')) for edit in line.get('begin', line.get('would'))}
 
 
 def action_of(entry: Answer) -> tuple[Any, bool]:
@@ -121,9 +121,12 @@ class Both:
         self.keeping.end()
 
     def give(self, line: Any) -> None:
-        """Gives a line to both."""
-        answer = self.forgetful.ask(line)
+        """Gives a line to both. Changes are asked for as a whole, since a page of them depends on how many
+        records there are."""
         kind = kind_of(line)
+        if kind == 'changes':
+            line = {name: value for name, value in line.items() if name != 'most'}
+        answer = self.forgetful.ask(line)
         if is_refused_at_once(answer):
             wanted = self.keeping.ask(line)
         elif kind == 'forget':
@@ -142,10 +145,10 @@ class Both:
 
     def is_gone(self, kind: str, line: Any) -> bool:
         """Whether a line is about what lies before the horizon."""
-        if kind in ('select', 'why'):
+        if kind in ('select', 'why', 'diff'):
             return bool(line.get('at', self.horizon) < self.horizon
                         or line.get('in', self.generation) < self.generation)
-        return kind == 'begin' and any(0 < slot <= self.horizon for slot in slots_edited(line))
+        return kind in ('begin', 'would') and any(0 < slot <= self.horizon for slot in slots_edited(line))
 
     # Forgetting
 
@@ -197,7 +200,10 @@ class Both:
         if kind == 'slots':
             return {**kept, 'slots': self.slots(kept['slots'])}
         if kind == 'changes' and is_accepted(answer):
-            return self.changes(line['changes'], kept, answer)
+            edited = self.edited if line['changes'] == 'next' else set()
+            return {**kept, 'from': answer['from'], 'changed': self.changed(kept, kept['from'], answer, edited)}
+        if kind == 'would' and is_accepted(answer):
+            return {**kept, 'changed': self.changed(kept, self.first_record(), answer, slots_edited(line))}
         return kept
 
     def stepped_to_horizon(self, begun: Answer) -> Answer:
@@ -224,18 +230,32 @@ class Both:
                 wanted.append(entry)
         return wanted
 
-    def changes(self, which: str, kept: Answer, answer: Answer) -> Answer:
-        """The changes that are wanted. Since some records are gone, earlier ones may be kept."""
-        emptied = self.emptied - (self.edited if which == 'next' else set())
-        wanted = [record for record in answer['changed'] if record['call'] < kept['from']]
-        for record in kept['changed']:
+    def as_asked(self, record: Answer) -> Answer:
+        """A changed reply with what its write was asked for, as the forgetful session knows, if it is told."""
+        if 'do' not in record or record['slot'] not in self.asked:
+            return record
+        writes, is_whole = self.asked[record['slot']]
+        found = {name: value for name, value in record.items() if name != 'whole'}
+        return {**found, 'do': writes, **({'whole': True} if is_whole else {})}
+
+    def first_record(self) -> int:
+        """The call of the first record of the session that keeps everything."""
+        self.forgetful.ask(STATUS)
+        return int(self.keeping.ask({'changes': 'now'})['from'])
+
+    def changed(self, kept: Answer, first: int, answer: Answer, edited: set[int]) -> list[Answer]:
+        """The changes that are wanted, in a generation with these slots edited. Since some records are gone,
+        earlier ones may be kept than the other session's first one."""
+        emptied = self.emptied - edited
+        wanted = [record for record in answer['changed'] if record['call'] < first]
+        for record in map(self.as_asked, kept['changed']):
             if record.get('slot') in emptied:
                 record = {**record, 'after': []}
             is_kept = ('slot' not in record or record['slot'] > self.horizon
                        ) and ('time' not in record or record['time'] >= self.horizon)
             if is_kept and record['before'] != record['after']:
                 wanted.append(record)
-        return {**kept, 'from': answer['from'], 'changed': wanted}
+        return wanted
 
 
 class Forgetting(unittest.TestCase):

@@ -49,11 +49,13 @@ PROMISED = {
                 'Dirty::partition_since Dirty::table_since Dirty::clear_of',
     'tt_db': 'Limits::usual Limits::fits Db::apply Db::begin Db::step Db::abort Db::select Db::select_at Db::preview '
              'Db::catalog Db::now Db::generation Db::events Db::entry Db::slot Db::repair '
-             'Db::cause Db::cause_in Db::diff Db::diff_in Db::diff_page Db::diff_page_in Db::versions',
+             'Db::cause Db::cause_in Db::diff Db::diff_in Db::diff_page Db::diff_page_in Db::tried '
+             'Db::versions',
     'tt_store': 'Store::open Store::named Store::begin Store::abort Store::step Store::finish '
                 'Store::refresh Store::close Worker::read Worker::read_at Worker::read_in '
                 'Worker::preview Worker::number Worker::seen Worker::seen_entry Worker::made Worker::place '
-                'Worker::progress Worker::cause Worker::cause_in Worker::write',
+                'Worker::progress Worker::cause Worker::cause_in Worker::diff Worker::diff_in '
+                'Worker::diff_page Worker::diff_page_in Worker::tried Worker::write',
     'tt_records': 'changes changes_next',
     'tt_repair': 'repair',
     'tt_document': 'Document::from_value',

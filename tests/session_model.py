@@ -21,7 +21,7 @@ DEEPEST = 127
 BLANK = re.compile(rb'[\t\r ]*\Z')
 WRITES = ['insert', 'update', 'delete']
 KINDS = ['insert', 'update', 'delete', 'select', 'preview', 'do', 'begin', 'step', 'finish',
-         'abort', 'status', 'slots', 'changes', 'tables', 'why', 'forget']
+         'abort', 'status', 'slots', 'changes', 'tables', 'why', 'diff', 'would', 'forget']
 OF_REPAIRS = ['step', 'finish', 'abort']  # they may say whose repair they are for
 MOST_WRITES = 16  # of an action
 NOTHING = {'do': []}
@@ -159,6 +159,14 @@ def a_text(path, value):
     return value
 
 
+def a_word(*words):
+    def read(path, value):
+        if a_text(path, value) not in words:
+            raise out_of_range(path)
+        return value
+    return read
+
+
 def a_value(path, value):
     if not is_int(value) and not isinstance(value, str):
         raise wrong(path)
@@ -284,6 +292,12 @@ class Grammar:
             return value
         return read
 
+    def row(self, path, value):
+        if not isinstance(value, list) or len(value) != 2:
+            raise wrong(path)
+        table = self.table(f'{path}[0]', value[0])
+        return table['name'], an_int(f'{path}[1]', value[1])
+
     def where(self, table):
         def one(path, value):
             if not isinstance(value, list) or not 2 <= len(value) <= 3:
@@ -391,9 +405,9 @@ class Grammar:
 
             def judge():
                 self.judge('$', table, {'where': asked['where']})
-        elif kind == 'begin':
+        elif kind in ('begin', 'would'):
             asked['edits'] = members.take(
-                'begin', lambda path, value: items(path, value, self.edit, most=10_000))
+                kind, lambda path, value: items(path, value, self.edit, most=10_000))
         elif kind == 'step':
             asked['step'] = members.take('step', lambda path, value: a_count(path, value, 1, 10_000))
         elif kind == 'slots':
@@ -403,21 +417,18 @@ class Grammar:
                 raise out_of_range('$.slots')
             asked['slots'] = first, last
             asked['of'] = members.perhaps('of', a_worker)
-
-            def row(path, value):
-                if not isinstance(value, list) or len(value) != 2:
-                    raise wrong(path)
-                table = self.table(f'{path}[0]', value[0])
-                return table['name'], an_int(f'{path}[1]', value[1])
-            asked['row'] = members.perhaps('row', row)
+            asked['row'] = members.perhaps('row', self.row)
         elif kind == 'changes':
-            asked['changes'] = members.take('changes', a_text)
-            if asked['changes'] not in ('now', 'next'):
-                raise out_of_range('$.changes')
-        elif kind == 'why':
-            members.take('why', true)
-            asked['in'] = members.perhaps('in', a_count)
+            asked['changes'] = members.take('changes', a_word('now', 'next'))
+            asked['of'] = members.perhaps('of', a_worker)
+            asked['only'] = members.perhaps('only', a_word('writes', 'reads'))
             asked['after'] = members.perhaps('after', a_count)
+            asked['most'] = members.perhaps('most', a_page)
+            asked['asked'] = members.perhaps('asked', a_flag, False)
+        elif kind in ('why', 'diff'):
+            members.take(kind, true)
+            asked['in'] = members.perhaps('in', a_count)
+            asked['after'] = members.perhaps('after', a_count if kind == 'why' else self.row)
             asked['most'] = members.perhaps('most', a_page)
         elif kind == 'forget':
             asked['forget'] = members.take('forget', a_count)
@@ -599,6 +610,24 @@ class Repair:
             return any(read not in dirty.parts for read in reads)
         return all(key[0] != name for key in dirty.rows)
 
+    # Differences, without a look at what is dirty
+
+    def rows_that_differ(self):
+        """The rows (table, key) that aren't the same in the two generations after the last slot done."""
+        before, after = self.sides()
+        return sorted((row for row in {*before, *after} if before.get(row) != after.get(row)), key=self.place_of)
+
+    def difference(self, row):
+        before, after = self.sides()
+        return {'table': row[0], 'key': row[1], 'before': before.get(row), 'after': after.get(row)}
+
+    def sides(self):
+        return self.current.contents[self.done()], self.next.contents[self.done()]
+
+    def place_of(self, row):
+        """Rows stand in the order of the tables, and then of their keys."""
+        return [table['name'] for table in self.current.tables].index(row[0]), row[1]
+
     # Causes
 
     def cause(self, slot):
@@ -613,8 +642,8 @@ class Repair:
     def cause_since(self, slot, since):
         """The first of the causes that there are since a slot."""
         before, dirty = self.dirty[since - 1:since + 1]
-        writes, names = self.current.slots[slot - 1]['do'], [table['name'] for table in self.current.tables]
-        for name, key in sorted(self.touched(slot) & dirty.rows, key=lambda row: (names.index(row[0]), row[1])):
+        writes = self.current.slots[slot - 1]['do']
+        for name, key in sorted(self.touched(slot) & dirty.rows, key=self.place_of):
             return {'because': 'wrote', 'table': name, 'key': key}
         for name, key in filter(None, [self.row_named(write, dirty) for write in writes]):
             return {'because': 'names', 'table': name, 'key': key}
@@ -765,8 +794,8 @@ class Session:
             raise Refusal('repair of another', worker=self.repair.worker)
         return self.repair
 
-    def record(self, **record):
-        self.records.append({'call': self.calls, **record})
+    def record(self, asked, **record):
+        self.records.append({'call': self.calls, 'worker': asked['worker'], **record})
         if len(self.records) > self.most_records:
             del self.records[0]
 
@@ -776,15 +805,17 @@ class Session:
         self.workers.append(asked['worker'])
         self.asked.append(asked['action'])
         replies = self.current().replies[-1]
-        self.record(slot=self.now(), before=replies)
+        self.record(asked, slot=self.now(), before=replies)
         return {'slot': self.now(), 'replies': replies}
 
     def page(self, asked, rows):
         if asked['after'] is not None:
             rows = [row for row in rows if row[0] > asked['after']]
-        if asked['most'] is None:
-            return {'rows': rows}
-        return {'rows': rows[:asked['most']], 'more': len(rows) > asked['most']}
+        return self.first_of('rows', rows, asked['most'])
+
+    def first_of(self, name, entries, most):
+        """The first of some entries, and whether there are more."""
+        return {name: entries} if most is None else {name: entries[:most], 'more': len(entries) > most}
 
     def generation(self, number, last):
         """The generation of a number, of those that are kept up to a last one."""
@@ -802,7 +833,7 @@ class Session:
         self.not_forgotten(time)
         rows = generation.rows(asked['table'], asked['where'], self.place(time))
         if asked['in'] is None and asked['after'] is None and asked['most'] is None:
-            self.record(time=time, before=rows, table=asked['table'], where=asked['where'])
+            self.record(asked, time=time, before=rows, table=asked['table'], where=asked['where'])
         return {'time': time, **self.page(asked, rows)}
 
     def do_preview(self, asked):
@@ -810,7 +841,8 @@ class Session:
         rows = repair.next.rows(asked['table'], asked['where'], repair.done())
         return {'done': self.last(repair.next), **self.page(asked, rows)}
 
-    def do_begin(self, asked):
+    def repair_with(self, asked):
+        """A repair with the edits that are asked for, before its first step."""
         if self.repair is not None:
             raise Refusal('repairing')
         slots = [slot for slot, _ in asked['edits']]
@@ -821,7 +853,10 @@ class Session:
             if slot in slots[:at]:
                 raise Refusal('edited twice', slot=slot)
         edits = [(self.place(slot), action) for slot, action in asked['edits']]
-        self.repair = Repair(self.current(), edits, asked['worker'])
+        return Repair(self.current(), edits, asked['worker'])
+
+    def do_begin(self, asked):
+        self.repair = self.repair_with(asked)
         self.entries += 1
         self.steps(self.ground)
         return self.standing()
@@ -899,10 +934,19 @@ class Session:
         return {'time': self.now(), 'slots': found}
 
     def do_changes(self, asked):
-        generation, changes = self.current(), []
-        if asked['changes'] == 'next':
-            generation = self.repairing().next
-        for record in self.records:
+        generation = self.repairing().next if asked['changes'] == 'next' else self.current()
+        first = self.records[0]['call'] if self.records else self.calls
+        records = [record for record in self.records if asked['of'] in (None, record['worker'])
+                   and (asked['only'] is None or ('slot' in record) == (asked['only'] == 'writes'))
+                   and (asked['after'] is None or record['call'] > asked['after'])]
+        changed = self.changed(records, generation, asked['asked'])
+        return {'from': first, **self.first_of('changed', changed, asked['most'])}
+
+    def changed(self, records, generation, is_in_full=False):
+        """The records whose answers would be others in a generation, so far as it has slots; with what was
+        asked for, where they are to be told in full."""
+        changes = []
+        for record in records:
             place = 'slot' if 'slot' in record else 'time'
             at = self.place(record[place])
             if at > len(generation.slots):
@@ -913,20 +957,45 @@ class Session:
             else:
                 after = generation.rows(record['table'], record['where'], at)
             if after != record['before']:
-                changes.append({'call': record['call'], place: record[place],
-                                'before': record['before'], 'after': after})
-        first = self.records[0]['call'] if self.records else self.calls
-        return {'from': first, 'changed': changes}
+                change = {place: record[place], 'before': record['before'], 'after': after}
+                if is_in_full:
+                    wanted = self.asked[at - 1] if place == 'slot' else {
+                        'select': record['table']['name'], 'where': record['where']}
+                    change = {'worker': record['worker'], **change, **wanted}
+                changes.append({'call': record['call'], **change})
+        return changes
 
+    def repair_of(self, asked):
+        """The repair that has closed the generation that is asked for, or the one under way."""
+        if asked['in'] is None:
+            return self.repairing()
+        return self.generation(asked['in'], self.newest() - 1).repair
 
     def do_why(self, asked):
-        closed = asked['in'] is not None
-        repair = self.generation(asked['in'], self.newest() - 1).repair if closed else self.repairing()
+        repair = self.repair_of(asked)
+        redone = [entry for entry in self.redone(repair) if entry['slot'] > (asked['after'] or 0)]
+        return {'done': self.told(repair.done()), **self.first_of('redone', redone, asked['most'])}
+
+    def do_diff(self, asked):
+        repair = self.repair_of(asked)
+        rows = repair.rows_that_differ()
+        if asked['after'] is not None:
+            rows = [row for row in rows if repair.place_of(row) > repair.place_of(asked['after'])]
+        return {'done': self.told(repair.done()),
+                **self.first_of('diff', [repair.difference(row) for row in rows], asked['most'])}
+
+    def do_would(self, asked):
+        repair = self.repair_with(asked)
+        while repair.left():
+            repair.step()
+        return {'slots': self.now(), 'rerun': repair.rerun, 'redone': self.redone(repair),
+                'changed': self.changed(self.records, repair.next),
+                'diff': [repair.difference(row) for row in repair.rows_that_differ()]}
+
+    def redone(self, repair):
+        """The slots that a repair has re-executed, with their causes."""
         causes = [(self.told(slot), repair.cause(slot)) for slot in range(1, repair.done() + 1)]
-        redone = [{'slot': slot, **self.told_cause(cause)} for slot, cause in causes
-                  if cause is not None and slot > (asked['after'] or 0)]
-        told = {'done': self.told(repair.done()), 'redone': redone[:asked['most']]}
-        return told if asked['most'] is None else {**told, 'more': len(redone) > asked['most']}
+        return [{'slot': slot, **self.told_cause(cause)} for slot, cause in causes if cause is not None]
 
     def told_cause(self, cause):
         return cause if 'since' not in cause else {**cause, 'since': self.told(cause['since'])}
@@ -1082,11 +1151,40 @@ class Random:
             {'why': False}, {'why': 1}, {'in': -1}, {'after': -1}, {'after': None}, {'most': 0}, {'most': 100_001},
             {'of': 1}, {'at': 1})})
 
+    def changes(self):
+        asked = {'changes': self.one_of('now', 'next'), **self.one_of({}, {}, {'of': self.one_of(1, 2)}),
+                 **self.one_of({}, {}, {'only': self.one_of('writes', 'reads')}),
+                 **self.one_of({}, {}, {'after': self.random.randint(0, 2 * self.time)}),
+                 **self.one_of({}, {}, {'most': self.one_of(1, 2, 9)}),
+                 **self.one_of({}, {'asked': self.one_of(True, True, False)})}
+        return self.one_of(*[asked] * 15, {**asked, **self.one_of(
+            {'changes': 'then'}, {'changes': 1}, {'of': 0}, {'of': '1'}, {'only': 'both'}, {'only': True},
+            {'after': -1}, {'after': ['acct', 1]}, {'most': 0}, {'most': 100_001}, {'asked': 1}, {'asked': None},
+            {'in': 1}, {'at': 1})})
+
+    def diff(self):
+        """Mostly without a fault, and mostly of the repair under way."""
+        asked = {'diff': True, **self.one_of({}, {}, {}, {'in': self.random.randint(0, 6)}),
+                 **self.one_of({}, {}, {}, {'after': [self.one_of('acct', 'acct', 'note'), self.key() - 1]}),
+                 **self.one_of({}, {'most': self.one_of(1, 2, 9)})}
+        return self.one_of(*[asked] * 15, {**asked, **self.one_of(
+            {'diff': False}, {'diff': 1}, {'in': -1}, {'after': self.key()}, {'after': ['acct']},
+            {'after': ['acct', 1, 2]}, {'after': ['none', 1]}, {'after': [1, 'acct']}, {'after': ['note', 'x']},
+            {'after': ['acct', None]}, {'most': 0}, {'most': 100_001}, {'of': 1}, {'row': ['acct', 1]})})
+
+    def edits(self):
+        return [self.edit() for _ in range(self.one_of(0, 1, 1, 2))]
+
+    def would(self):
+        asked = {'would': self.edits()}
+        return self.one_of(*[asked] * 15, {**asked, **self.one_of(
+            {'would': True}, {'would': {}}, {'would': [7]}, {'most': 1}, {'of': 1})})
+
     def request(self):
         kind = self.one_of(*['write'] * 6, 'select', 'select', 'preview', 'begin', 'begin',
                            *['step'] * 3, 'finish', 'finish', 'abort', 'status', 'slots', 'slots',
-                           'changes', 'changes', 'why', 'why', 'why', 'tables', 'opening', 'fault',
-                           *['forget'] * self.forgets)
+                           'changes', 'changes', 'why', 'why', 'why', 'diff', 'diff', 'diff', 'would', 'tables',
+                           'opening', 'fault', *['forget'] * self.forgets)
         table, where = 'acct', self.where()
         if self.one_of(*[False] * 5, True):
             table, where = 'note', self.compared(self.one_of([], [['n', self.key()]]))
@@ -1103,7 +1201,7 @@ class Random:
                     **self.one_of({}, {}, {'in': self.random.randint(0, 6)}), **self.page()}
         return {
             'preview': {'preview': table, 'where': where, **self.page()},
-            'begin': {'begin': [self.edit() for _ in range(self.one_of(0, 1, 1, 2))]},
+            'begin': {'begin': self.edits()},
             'step': {'step': self.one_of(1, 2, 5, 10_000), **self.of_worker()},
             'finish': {'finish': True, **self.of_worker()},
             'abort': self.one_of({'abort': True, **self.of_worker()}, {'status': True}, {'status': True}),
@@ -1112,8 +1210,10 @@ class Random:
             'slots': {'slots': [first, first + self.one_of(0, 3, 9_999)],
                       **self.one_of({}, {'of': self.one_of(1, 2)}),
                       **self.one_of({}, {'row': ['acct', self.key()]})},
-            'changes': {'changes': self.one_of('now', 'next')},
+            'changes': self.changes(),
             'why': self.why(),
+            'diff': self.diff(),
+            'would': self.would(),
             'tables': {'tables': True},
             'fault': self.one_of({'step': 0}, {'insert': 'acct', 'row': [1]}, {}, [], {'x': 1},
                                  {'forget': -1}, self.faulty_whole(), self.faulty_whole()),

@@ -101,6 +101,8 @@ def limits() -> Iterator[Case]:
         f'{{"select":"acct","where":[["owner","{long}x"]]}}',
         f'{{"select":"acct","where":[{copies(1, 31, equal)}["id",1]]}}',
         f'{{"select":"acct","where":[{copies(1, 32, equal)}["id",1]]}}',
+        f'{{"would":[{sevens(10_000)}]}}',
+        f'{{"would":[{sevens(10_001)}]}}',
     ]
     yield held(''.join(f'{line}\n' for line in lines), text_of('tests/sessions/limits'), 'tests/sessions/limits')
 

@@ -13,7 +13,7 @@ import sys
 from typing import Literal
 
 from timetravel import (
-    ChangedSelect, Column, Moved, Reply, Row, Session, Slot, Table, cancel, insert, update)
+    ChangedSelect, Column, Moved, Redone, Reply, Row, Session, Slot, Table, Trial, cancel, insert, update)
 
 ACCOUNTS = Table("acct", [
     Column("id", "int"), Column("owner", "text", partition=True), Column("bal", "int")])
@@ -79,6 +79,21 @@ def print_changes(session: Session, which: Literal["now", "next"]) -> None:
             print(f"  call {change.call} wrote, in slot {change.slot}: {before} -> {after}")
 
 
+def print_trial(trial: Trial) -> None:
+    for redone in trial.redone:
+        print(f"  slot {redone.slot}: {cause_text(redone)}")
+    for row in trial.diff:
+        before, after = (rows_text([] if found is None else [found]) for found in (row.before, row.after))
+        print(f"  {row.table} {row.key}: {before} -> {after}")
+
+
+def cause_text(redone: Redone) -> str:
+    if redone.because == "edited":
+        return redone.because
+    named = [redone.table, redone.key, redone.column, redone.value]
+    return f"{redone.because} {' '.join(str(name) for name in named if name is not None)} since slot {redone.since}"
+
+
 def row_text(row: Row) -> str:
     return ", ".join(str(value) for value in row)
 
@@ -115,9 +130,12 @@ def run(session: Session) -> None:
     for slot in suspects:
         print_slot(slot)
     bad = [slot.slot for slot in suspects if slot.slot >= taken.slot]
-    print(f"Dan's payment was right. The operator cancels slots {bad[0]} and {bad[1]}.")
+    print(f"Dan's payment was right. What if slots {bad[0]} and {bad[1]} were cancelled?")
+    edits = [cancel(slot) for slot in bad]
+    print_trial(session.repair(edits, dry=True, worker=OPERATOR))
 
-    progress = session.begin([cancel(slot) for slot in bad], worker=OPERATOR)
+    print("Nothing else differs, so the operator cancels them.")
+    progress = session.begin(edits, worker=OPERATOR)
     print(f"  {progress.done} slots done, {progress.left} left, {progress.rerun} re-executed")
     while progress.left > 0:
         progress = session.step(3, worker=OPERATOR)

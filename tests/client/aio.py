@@ -9,14 +9,14 @@ from collections.abc import Coroutine
 from typing import Any
 
 from tests.client.conversations import CONVERSATION
-from tests.client.repair import ABORTED, STEPPED, SWITCHED
+from tests.client.repair import ABORTED, CAUSES, CHANGED, DIFFER, EDITED, GONE, STEPPED, SWITCHED
 from tests.support.client_package import session_command
 from tests.support.fixtures import temporary_folder
 from tests.support.stand_in import (
     ACCT, INSERTED, OPENED, OPENING, ClientCase, ServerCase, StandInCase, Steps, told)
 from timetravel import (
-    AnotherOpening, Closed, Disconnected, Fault, Lost, NoAnswer, NotConnected, NotStarted, Progress, Status,
-    Stepped, Switched, aio, cancel, insert)
+    AnotherOpening, ChangedWrite, Closed, Difference, Disconnected, Fault, Lost, NoAnswer, NotConnected,
+    NotStarted, Progress, Redone, RepairOfAnother, Reply, Status, Stepped, Switched, Trial, aio, cancel, insert)
 
 
 class Waiting:
@@ -216,6 +216,43 @@ class Programs(AioCase, StandInCase):
                 await self.assert_awaited(session.repair([cancel(1)], progress=lambda _: 1 // 0),
                                           ZeroDivisionError)
             self.assertEqual(self.lines()[-1], '{"abort":true,"of":1}')
+
+        self.run_limited(main())
+
+    def test_changes_by_pages(self) -> None:
+        async def main() -> None:
+            change = '{"call":%d,"slot":1,"before":["inserted"],"after":"cancelled"}'
+            async with self.make(told('{"call":1,"from":1,"changed":[' + change % 4 + '],"more":true}',
+                                      '{"call":2,"from":1,"changed":[],"more":false}')) as session:
+                found = [page.changed async for page in session.change_pages("next", most=1)]
+                self.assertEqual(found, [[ChangedWrite(4, 1, [Reply("inserted")], None)], []])
+            self.assertEqual(self.lines()[1:], [
+                '{"changes":"next","most":1}', '{"changes":"next","after":4,"most":1}'])
+
+        self.run_limited(main())
+
+    def test_a_dry_run(self) -> None:
+        async def main() -> None:
+            answers = [STEPPED % (1, 5, 0, 3), CAUSES % (2, 5, ",".join([EDITED % 1, EDITED % 3]), "true"),
+                       CAUSES % (3, 5, EDITED % 4, "false"), CHANGED % 4,
+                       DIFFER % (5, 5, ",".join([GONE % (1, 1), GONE % (2, 2)]), "true"),
+                       DIFFER % (6, 5, GONE % (7, 7), "false"), ABORTED % 7,
+                       STEPPED % (8, 5, 0, 0), CAUSES % (9, 5, "", "false"), CHANGED % 10,
+                       DIFFER % (11, 6, "", "false"), CAUSES % (12, 6, "", "false"), CHANGED % 13,
+                       DIFFER % (14, 6, "", "false"), '{"call":15,"refused":"repair of another","worker":3}']
+            async with self.make(told(*answers)) as session:
+                tried = await session.repair([cancel(1), cancel(3), cancel(4)], dry=True, worker=9)
+                self.assertEqual(tried, Trial(
+                    1, 5, 3, [Redone(1, "edited"), Redone(3, "edited"), Redone(4, "edited")],
+                    [ChangedWrite(4, 1, [Reply("inserted")], None)],
+                    [Difference("acct", key, [key, "ann", 0], None) for key in (1, 2, 7)]))
+                # Somebody else goes on with the next one, and ends it, and another begins.
+                await self.assert_awaited(session.repair([], dry=True, worker=9), RepairOfAnother)
+            self.assertEqual(self.lines()[2:8], [
+                '{"worker":9,"why":true,"most":1000}', '{"worker":9,"why":true,"after":3,"most":1000}',
+                '{"worker":9,"changes":"next","most":1000}', '{"worker":9,"diff":true,"most":1000}',
+                '{"worker":9,"diff":true,"after":["acct",2],"most":1000}', '{"worker":9,"abort":true,"of":9}'])
+            self.assertEqual(len(self.lines()), 16)
 
         self.run_limited(main())
 

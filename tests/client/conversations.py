@@ -11,10 +11,10 @@ from tests.support.client_package import PACKAGE, session_command
 from tests.support.fixtures import program
 from tests.support.stand_in import ACCT, ACCT_LINE, OPENING, ClientCase, StandInCase, told
 from timetravel import (
-    Causes, ChangedSelect, ChangedWrite, Changes, EditedTwice, Fault, Forgotten, Later, Moved, NoGeneration,
-    NoSlot, NotRepairing, Previewed, Redone, Repair, RepairOfAnother, Repairing, Reply, Row, Selected, Session,
-    Slot, Slots, Status, Stepped, Switched, Tables, Written, above, at_least, at_most, below, cancel, delete, do,
-    insert, is_not, replace, update)
+    Causes, ChangedSelect, ChangedWrite, Changes, Difference, Differences, EditedTwice, Fault, Forgotten, Later,
+    Moved, NoGeneration, NoSlot, NotRepairing, Previewed, Redone, Repair, RepairOfAnother, Repairing, Reply, Row,
+    Selected, Session, Slot, Slots, Status, Stepped, Switched, Tables, Trial, Written, above, at_least, at_most,
+    below, cancel, delete, do, insert, is_not, replace, update)
 
 # The requests of one conversation: a call of a session, its line, its answer as a line and decoded.
 CONVERSATION: list[tuple[Any, str, str, Any]] = [
@@ -105,7 +105,7 @@ CONVERSATION: list[tuple[Any, str, str, Any]] = [
     (lambda s: s.send({"x": 1}).result(),
      '{"x":1}',
      '{"call":24,"fault":{"path":"$","cause":"missing one of insert, update, delete, select, preview, do, '
-     'begin, step, finish, abort, status, slots, changes, tables, why, forget"}}',
+     'begin, step, finish, abort, status, slots, changes, tables, why, diff, would, forget"}}',
      (Fault, {"path": "$", "call": 24})),
     # A second repair, with replaced slots, and the members that the requests above leave out.
     (lambda s: s.do([insert("acct", [2, "bøb", -5]), insert("acct", [2, "eve", 0])], worker=3, if_time=4),
@@ -341,6 +341,114 @@ CONVERSATION: list[tuple[Any, str, str, Any]] = [
     (lambda s: s.send({"why": False}).result(),
      '{"why":false}', '{"call":84,"fault":{"path":"$.why","cause":"out of range"}}',
      (Fault, {"path": "$.why", "cause": "out of range"})),
+    # Which rows differ, and what a repair would come to.
+    (lambda s: s.diff(3),
+     '{"diff":true,"in":3}',
+     '{"call":85,"done":17,"diff":[{"table":"acct","key":5,"before":null,"after":[5,"eve",10]}]}',
+     Differences(85, 17, [Difference("acct", 5, None, Row([5, "eve", 10]))])),
+    (lambda s: s.diff(),
+     '{"diff":true}', '{"call":86,"refused":"not repairing"}', (NotRepairing, {"call": 86})),
+    (lambda s: s.diff(3, after=("acct", 5), most=2, worker=9, if_time=17),
+     '{"worker":9,"if":17,"diff":true,"in":3,"after":["acct",5],"most":2}',
+     '{"call":87,"done":17,"diff":[],"more":false}', Differences(87, 17, [], False)),
+    (lambda s: s.diff(4, after=("acct", -1)),
+     '{"diff":true,"in":4,"after":["acct",-1]}',
+     '{"call":88,"refused":"no generation","oldest":1,"newest":4}', (NoGeneration, {"oldest": 1, "newest": 4})),
+    (lambda s: s.would([replace(12, insert("acct", {"bal": 0, "id": 6, "owner": "ann"})), cancel(17)]),
+     '{"would":[{"replace":12,"by":{"insert":"acct","row":[6,"ann",0]}},{"cancel":17}]}',
+     '{"call":89,"slots":17,"rerun":5,"redone":[{"slot":12,"because":"edited"},'
+     '{"slot":14,"because":"wrote","table":"acct","key":5,"since":12},'
+     '{"slot":15,"because":"wrote","table":"acct","key":5,"since":12},'
+     '{"slot":16,"because":"scans","table":"acct","since":12},{"slot":17,"because":"edited"}],"changed":['
+     '{"call":3,"time":2,"before":[[1,"ann",0]],"after":[[1,"ann",10]]},'
+     '{"call":47,"slot":8,"before":[{"deleted":0}],"after":"cancelled"},'
+     '{"call":50,"slot":9,"before":["inserted",{"updated":1}],"after":"cancelled"},'
+     '{"call":51,"slot":10,"before":[{"deleted":1},"duplicate"],"after":[{"deleted":0},"duplicate",{"deleted":1}]},'
+     '{"call":53,"time":11,"before":[[1,"ann",5],[3,"eve",8]],"after":[]},'
+     '{"call":73,"slot":13,"before":[{"updated":1}],"after":"cancelled"},'
+     '{"call":74,"slot":14,"before":["duplicate",{"updated":0},{"deleted":0}],'
+     '"after":["inserted",{"updated":0},{"deleted":0}]},'
+     '{"call":77,"slot":17,"before":[{"deleted":1}],"after":"cancelled"}],'
+     '"diff":[{"table":"acct","key":5,"before":[5,"eve",10],"after":[5,"ann",0]},'
+     '{"table":"acct","key":6,"before":null,"after":[6,"ann",0]}]}',
+     Trial(89, 17, 5, [
+         Redone(12, "edited"), Redone(14, "wrote", "acct", 5, since=12), Redone(15, "wrote", "acct", 5, since=12),
+         Redone(16, "scans", "acct", since=12), Redone(17, "edited")], [
+         ChangedSelect(3, 2, [Row([1, "ann", 0])], [Row([1, "ann", 10])]),
+         ChangedWrite(47, 8, [Reply("deleted", 0)], None),
+         ChangedWrite(50, 9, [Reply("inserted"), Reply("updated", 1)], None),
+         ChangedWrite(51, 10, [Reply("deleted", 1), Reply("duplicate")],
+                      [Reply("deleted", 0), Reply("duplicate"), Reply("deleted", 1)]),
+         ChangedSelect(53, 11, [Row([1, "ann", 5]), Row([3, "eve", 8])], []),
+         ChangedWrite(73, 13, [Reply("updated", 1)], None),
+         ChangedWrite(74, 14, [Reply("duplicate"), Reply("updated", 0), Reply("deleted", 0)],
+                      [Reply("inserted"), Reply("updated", 0), Reply("deleted", 0)]),
+         ChangedWrite(77, 17, [Reply("deleted", 1)], None)], [
+         Difference("acct", 5, Row([5, "eve", 10]), Row([5, "ann", 0])),
+         Difference("acct", 6, None, Row([6, "ann", 0]))])),
+    (lambda s: s.would([cancel(99), cancel(99)], worker=9, if_time=17),
+     '{"worker":9,"if":17,"would":[{"cancel":99},{"cancel":99}]}',
+     '{"call":90,"refused":"no slot","slot":99}', (NoSlot, {"slot": 99})),
+    (lambda s: s.would([cancel(12), cancel(12)]),
+     '{"would":[{"cancel":12},{"cancel":12}]}',
+     '{"call":91,"refused":"edited twice","slot":12}', (EditedTwice, {"slot": 12})),
+    (lambda s: s.begin([replace(12, insert("acct", [6, "ann", 0])), cancel(17)]),
+     '{"begin":[{"replace":12,"by":{"insert":"acct","row":[6,"ann",0]}},{"cancel":17}]}',
+     '{"call":92,"done":2,"left":15,"rerun":0}', Stepped(2, 15, 0, 92)),
+    (lambda s: s.would([]),
+     '{"would":[]}', '{"call":93,"refused":"repairing"}', (Repairing, {"call": 93})),
+    (lambda s: s.step(15),
+     '{"step":15,"of":1}', '{"call":94,"done":17,"left":0,"rerun":5}', Stepped(17, 0, 5, 94)),
+    (lambda s: s.send({"diff": True}).result(),
+     '{"diff":true}',
+     '{"call":95,"done":17,"diff":[{"table":"acct","key":5,"before":[5,"eve",10],"after":[5,"ann",0]},'
+     '{"table":"acct","key":6,"before":null,"after":[6,"ann",0]}]}',
+     Differences(95, 17, [Difference("acct", 5, Row([5, "eve", 10]), Row([5, "ann", 0])),
+                          Difference("acct", 6, None, Row([6, "ann", 0]))])),
+    (lambda s: s.diff(most=1),
+     '{"diff":true,"most":1}',
+     '{"call":96,"done":17,"diff":[{"table":"acct","key":5,"before":[5,"eve",10],"after":[5,"ann",0]}],"more":true}',
+     Differences(96, 17, [Difference("acct", 5, Row([5, "eve", 10]), Row([5, "ann", 0]))], True)),
+    (lambda s: s.diff(after=("acct", 5), most=1),
+     '{"diff":true,"after":["acct",5],"most":1}',
+     '{"call":97,"done":17,"diff":[{"table":"acct","key":6,"before":null,"after":[6,"ann",0]}],"more":false}',
+     Differences(97, 17, [Difference("acct", 6, None, Row([6, "ann", 0]))], False)),
+    (lambda s: s.abort(),
+     '{"abort":true,"of":1}',
+     '{"call":98,"time":17,"generation":4,"oldest":1,"entries":76,"repair":null,"horizon":2}',
+     Status(98, 17, 4, 1, 76, None, 2)),
+    (lambda s: s.send({"diff": False}).result(),
+     '{"diff":false}', '{"call":99,"fault":{"path":"$.diff","cause":"out of range"}}',
+     (Fault, {"path": "$.diff", "cause": "out of range"})),
+    (lambda s: s.diff(after=("note", 1)),
+     '{"diff":true,"after":["note",1]}', '{"call":100,"fault":{"path":"$.after[0]","cause":"no such table"}}',
+     (Fault, {"path": "$.after[0]", "cause": "no such table"})),
+    (lambda s: s.send({"would": [{"cancel": -1}]}).result(),
+     '{"would":[{"cancel":-1}]}', '{"call":101,"fault":{"path":"$.would[0].cancel","cause":"wrong type"}}',
+     (Fault, {"path": "$.would[0].cancel", "cause": "wrong type"})),
+    # Changes of some requests, with what these were.
+    (lambda s: s.changes(of=3, only="writes", after=3, most=1, asked=True, worker=9, if_time=17),
+     '{"worker":9,"if":17,"changes":"now","of":3,"only":"writes","after":3,"most":1,"asked":true}',
+     '{"call":102,"from":3,"changed":[{"call":50,"worker":3,"slot":9,"before":["inserted",{"updated":1}],'
+     '"after":"cancelled","do":[{"insert":"acct","row":[3,"eve",8]},'
+     '{"update":"acct","change":[["add","bal",5]],"where":[["id",1]]}],"whole":true}],"more":false}',
+     Changes(102, 3, [ChangedWrite(
+         50, 9, [Reply("inserted"), Reply("updated", 1)], None, 3,
+         [insert("acct", [3, "eve", 8]), update("acct", where={"id": 1}, add={"bal": 5})], True)], False)),
+    (lambda s: s.changes("now", only="reads", most=1, asked=False),
+     '{"changes":"now","only":"reads","most":1}',
+     '{"call":103,"from":3,"changed":[{"call":3,"time":2,"before":[[1,"ann",0]],"after":[[1,"ann",10]]}],"more":true}',
+     Changes(103, 3, [ChangedSelect(3, 2, [Row([1, "ann", 0])], [Row([1, "ann", 10])])], True)),
+    (lambda s: s.send({"changes": "now", "only": "reads", "after": 3, "most": 5, "asked": True}).result(),
+     '{"changes":"now","only":"reads","after":3,"most":5,"asked":true}',
+     '{"call":104,"from":3,"changed":[{"call":53,"worker":1,"time":11,"before":[[1,"ann",5],[3,"eve",8]],"after":[],'
+     '"select":"acct","where":[]}],"more":false}',
+     Changes(104, 3, [ChangedSelect(53, 11, [Row([1, "ann", 5]), Row([3, "eve", 8])], [], 1, "acct", [])], False)),
+    (lambda s: s.changes("next", of=7),
+     '{"changes":"next","of":7}', '{"call":105,"refused":"not repairing"}', (NotRepairing, {"call": 105})),
+    (lambda s: s.changes(only="both"),
+     '{"changes":"now","only":"both"}', '{"call":106,"fault":{"path":"$.only","cause":"out of range"}}',
+     (Fault, {"path": "$.only", "cause": "out of range"})),
 ]
 
 

@@ -42,8 +42,9 @@ class Timeouts(StandInCase):
                     lambda: session.preview("acct", timeout=0), lambda: session.finish(timeout=0),
                     lambda: session.abort(timeout=0), lambda: session.status(timeout=0),
                     lambda: session.slots(1, 2, timeout=0), lambda: session.changes(timeout=0),
-                    lambda: session.why(timeout=0), lambda: session.tables(timeout=0),
-                    lambda: session.repair([], timeout=0)):
+                    lambda: session.why(timeout=0), lambda: session.diff(timeout=0),
+                    lambda: session.would([], timeout=0), lambda: session.tables(timeout=0),
+                    lambda: session.repair([], timeout=0), lambda: session.repair([], dry=True, timeout=0)):
             self.assertRaises(NoAnswer, ask)
 
     def test_a_program_that_does_not_open(self) -> None:

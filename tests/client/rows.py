@@ -12,8 +12,8 @@ from typing import Any
 from tests.support.client_package import session_command
 from tests.support.stand_in import ACCT, ClientCase, StandInCase, told
 from timetravel import (
-    ChangedSelect, Column, NewRow, Row, Session, Table, Value, above, at_least, at_most, below, cancel,
-    delete, do, insert, is_not, preview, replace, select, update)
+    ChangedSelect, ChangedWrite, Column, NewRow, NotRepairing, Row, Session, Table, Value, above, at_least,
+    at_most, below, cancel, delete, do, insert, is_not, preview, replace, select, update)
 
 ANSWER = '{"call":%d,"time":1,"rows":[[1,"ann",10],[2,"bob",-5]]}'
 WRITTEN = '{"call":%d,"slot":%d,"replies":["inserted"]}'
@@ -65,6 +65,16 @@ class Rows(StandInCase):
         self.assertEqual((slot.do[0]["row"]["bal"], slot.asked[0]["row"]["bal"]), (10, 7))
         self.assertEqual(slot.do, [insert("acct", [1, "ann", 10])])
 
+    def test_rows_that_differ(self) -> None:
+        found = '[{"table":"acct","key":1,"before":[1,"ann",5],"after":null},' \
+            '{"table":"acct","key":2,"before":null,"after":[2,"bob",6]}]'
+        with self.open(told('{"call":1,"done":4,"diff":' + found + '}',
+                            '{"call":2,"slots":4,"rerun":0,"redone":[],"changed":[],"diff":' + found + '}')) as session:
+            for gone, come in (session.diff().diff, session.would([]).diff):
+                assert gone.before is not None and come.after is not None
+                self.assertEqual((gone.before["owner"], gone.after), ("ann", None))
+                self.assertEqual((come.before, dict(come.after)), (None, {"id": 2, "owner": "bob", "bal": 6}))
+
     def test_rows_of_changes_have_no_names(self) -> None:
         with self.open(told('{"call":1,"from":1,"changed":[{"call":1,"time":2,"before":[[1,"ann",0]],'
                             '"after":[]}]}')) as session:
@@ -73,6 +83,30 @@ class Rows(StandInCase):
         assert isinstance(change, ChangedSelect)
         with self.assertRaises(KeyError):
             change.before[0]["id"]
+
+    def test_rows_of_changes_that_tell_what_was_asked_for(self) -> None:
+        with self.open(told(
+                '{"call":1,"from":1,"changed":[{"call":1,"worker":2,"time":2,"before":[[1,"ann",0]],"after":[],'
+                '"select":"acct","where":[["id",1]]},{"call":2,"worker":3,"slot":3,"before":["inserted"],"after":[],'
+                '"do":[{"insert":"acct","row":[1,"ann",10]}]}]}')) as session:
+            read, write = session.changes(asked=True).changed
+        self.assertEqual(read, ChangedSelect(1, 2, [Row([1, "ann", 0])], [], 2, "acct", [["id", 1]]))
+        self.assertEqual(read.before[0]["owner"], "ann")    # type: ignore[call-overload]
+        assert isinstance(write, ChangedWrite) and write.do is not None
+        self.assertEqual((write.worker, write.whole, write.do[0]["row"]["bal"]), (3, False, 10))
+
+    def test_changes_by_pages(self) -> None:
+        change = '{"call":%d,"slot":1,"before":["inserted"],"after":"cancelled"}'
+        with self.open(told('{"call":1,"from":1,"changed":[' + change % 4 + ',' + change % 7 + '],"more":true}',
+                            '{"call":2,"from":1,"changed":[' + change % 9 + '],"more":false}',
+                            '{"call":3,"refused":"not repairing"}')) as session:
+            pages = session.change_pages(of=2, only="writes", asked=True, most=2, worker=9)
+            self.assertEqual([[each.call for each in page.changed] for page in pages], [[4, 7], [9]])
+            self.assertRaises(NotRepairing, next, session.change_pages("next"))
+        self.assertEqual(self.lines()[1:], [
+            '{"worker":9,"changes":"now","of":2,"only":"writes","most":2,"asked":true}',
+            '{"worker":9,"changes":"now","of":2,"only":"writes","after":7,"most":2,"asked":true}',
+            '{"changes":"next","most":1000}'])
 
     def test_inserting_by_names(self) -> None:
         row: dict[str, Value] = {"bal": 10, "owner": "ann", "id": 1}

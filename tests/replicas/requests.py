@@ -9,7 +9,7 @@ import socket
 
 from tests.support.client_package import needs_etcd
 from tests.support.clusters import ALL, OPENING, ReplicaProcess, WithEtcd, insert
-from timetravel import Column, Moved, NotRepairing, Session, Table
+from timetravel import Column, Difference, Moved, NotRepairing, Session, Table, cancel
 from timetravel.following import encoded
 
 setUpModule = needs_etcd
@@ -94,9 +94,14 @@ class Requests(WithEtcd):
             entries = len(self.cluster.lines())
             self.assertEqual(session.select("acct").rows, [[1, 7]])
             self.assertRaises(NotRepairing, session.why)
-            self.assertEqual(len(self.cluster.lines()), entries)    # Neither is in the log.
+            self.assertRaises(NotRepairing, session.diff)
+            self.assertEqual(session.would([cancel(2)]).diff, [Difference("acct", 1, [1, 7], [1, 10])])
+            self.assertEqual(len(self.cluster.lines()), entries)    # None of these is in the log.
             session.update("acct", {"id": 1}, add={"bal": 1})
             self.assertEqual(session.select("acct").rows[0]["bal"], 8)
+            tried = session.repair([cancel(2)], dry=True, worker=9)
+            self.assertEqual(tried.diff, [Difference("acct", 1, [1, 8], [1, 11])])
+            self.assertIsNone(session.status().repair)
 
     def test_a_socket_that_is_handed_over(self) -> None:
         path = os.path.join(self.folder, "handed.socket")

@@ -9,7 +9,9 @@ import stat
 import threading
 from pathlib import Path
 
-from tests.support.served import ALL, BOUND, EMPTY, OPENING, STATUS, ServingCase, insert
+from tests.support.served import (
+    ALL, BOUND, EMPTY, OPENING, STATUS, ServingCase, insert, metrics, samples)
+from timetravel import Column, Difference, Progress, Session, Table, cancel
 from timetravel.lines import LONGEST
 
 
@@ -101,3 +103,26 @@ class Lines(ServingCase):
         client.send(*[ALL] * 5)
         for _ in range(5):
             self.assertEqual(len(client.answer()["rows"]), number)
+
+    def test_a_dry_run_beside_a_writer(self) -> None:
+        server = self.serving()
+        writer = server.client()
+        writer.send(*(insert(key) for key in range(20)))
+        self.assertEqual([writer.answer()["slot"] for _ in range(20)], list(range(1, 21)))
+        table = Table("acct", [Column("id", "int"), Column("owner", "text", True), Column("bal", "int")])
+        written: list[int] = []
+
+        def write(_: Progress) -> None:
+            written.append(writer.ask(insert(100 + len(written)))["slot"])
+
+        with Session.connect(server.path, [table]) as session:
+            tried = session.repair([cancel(7)], dry=True, step=5, progress=write, worker=9)
+            self.assertEqual(written, list(range(21, 21 + len(written))))    # Nobody waits for its end.
+            self.assertEqual((tried.slots, tried.rerun), (written[-1] - 1, 1))
+            self.assertEqual(tried.diff, [Difference("acct", 6, [6, "ann", 10], None)])
+            self.assertEqual(session.would([cancel(7)]).diff, tried.diff)
+            status = session.status()
+            self.assertEqual((status.time, status.generation, status.repair), (written[-1], 0, None))
+        found = samples(metrics(server.path))
+        self.assertEqual([found[f'timetravel_request_seconds_count{{kind="{kind}"}}']
+                          for kind in ("why", "diff", "would", "abort")], [1, 1, 1, 1])

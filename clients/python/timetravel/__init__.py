@@ -28,8 +28,8 @@ asyncio. docs/SESSION.md is the manual.
 
 from . import aio
 from .answers import (
-    Answer, Causes, ChangedSelect, ChangedWrite, Changes, Previewed, Progress, Redone, Repair, Reply, Selected,
-    Slot, Slots, Status, Stepped, Switched, Tables, Written)
+    Answer, Causes, ChangedSelect, ChangedWrite, Changes, Difference, Differences, Previewed, Progress, Redone,
+    Repair, Reply, Selected, Slot, Slots, Status, Stepped, Switched, Tables, Trial, Written)
 from .errors import (
     AnotherOpening, Closed, Disconnected, EditedTwice, Ended, Error, Fault, Forgotten, Forked, Full, Later,
     LogFailed, Lost, Moved, NoAnswer, NoGeneration, NoSlot, NotConnected, NotRepairing, NotStarted,
@@ -44,10 +44,10 @@ __version__ = "0.1.0"
 
 __all__ = [
     "AnotherOpening", "Answer", "Causes", "Change", "ChangedSelect", "ChangedWrite", "Changes", "Closed",
-    "Column", "Compared", "Disconnected", "Edit", "EditedTwice", "Ended", "Error", "Fault", "Forgotten",
-    "Forked", "Full", "Later", "LogFailed", "Lost", "Moved", "NewRow", "NoAnswer", "NoGeneration", "NoSlot",
-    "NotConnected", "NotRepairing", "NotStarted", "OutOfMemory", "Previewed", "Progress", "Redone", "Refused",
-    "Repair", "RepairOfAnother", "Repairing", "Reply", "Row", "Selected", "Session", "Slot", "Slots",
-    "Status", "Stepped", "Switched", "Table", "Tables", "Value", "Vanished", "Where", "Write", "Written",
-    "above", "aio", "at_least", "at_most", "below", "cancel", "delete", "do", "insert", "is_not", "preview",
-    "replace", "select", "update"]
+    "Column", "Compared", "Difference", "Differences", "Disconnected", "Edit", "EditedTwice", "Ended", "Error",
+    "Fault", "Forgotten", "Forked", "Full", "Later", "LogFailed", "Lost", "Moved", "NewRow", "NoAnswer",
+    "NoGeneration", "NoSlot", "NotConnected", "NotRepairing", "NotStarted", "OutOfMemory", "Previewed",
+    "Progress", "Redone", "Refused", "Repair", "RepairOfAnother", "Repairing", "Reply", "Row", "Selected",
+    "Session", "Slot", "Slots", "Status", "Stepped", "Switched", "Table", "Tables", "Trial", "Value",
+    "Vanished", "Where", "Write", "Written", "above", "aio", "at_least", "at_most", "below", "cancel",
+    "delete", "do", "insert", "is_not", "preview", "replace", "select", "update"]

@@ -14,281 +14,25 @@ import asyncio
 import inspect
 import math
 import os
-import socket
-from abc import ABC, abstractmethod
 from collections.abc import AsyncIterator, Awaitable, Callable, Generator, Iterable, Mapping, Sequence
-from typing import Any, Literal, TypeVar, cast, overload
+from typing import Any, Literal, TypeVar, overload
 
 from . import answers, program, requests
+from .aio_channels import Connection, Program
 from .answers import (
-    Causes, Changes, Decode, Previewed, Progress, Selected, Slots, Status, Stepped, Switched, Tables, Written)
-from .errors import (
-    Closed, Disconnected, Ended, Error, Forked, Lost, NoAnswer, NotConnected, NotRepairing, Refused,
-    RepairOfAnother)
-from .forks import close_in_children
+    Causes, Changes, Decode, Differences, Previewed, Progress, Selected, Slots, Status, Stepped, Switched, Tables,
+    Trial, Written)
+from .errors import Closed, Error, Forked, NoAnswer, NotRepairing, Refused, RepairOfAnother
 from .keeping import Keeping
 from .opening import Opening
-from .requests import Change, Edit, NewRow, Where, Write
+from .requests import PAGE, Change, Edit, NewRow, Where, Write
 from .tables import Table, Value
 from .told import Told
-from .waiting import Cutter, Farewell, Waiters, WaitersByCall, WaitersInOrder, Waiting
 
 __all__ = ["Session"]
 
 AnswerType = TypeVar("AnswerType")
 Found = TypeVar("Found")
-
-
-class _Wait:
-    """The future of an answer, which isn't set where who waited has given up."""
-    __slots__ = ("_future",)
-
-    def __init__(self, future: asyncio.Future[Any]) -> None:
-        self._future = future
-
-    def set_result(self, result: Any, /) -> None:
-        if not self._future.done():
-            self._future.set_result(result)
-
-    def set_exception(self, exception: Error, /) -> None:
-        if not self._future.done():
-            self._future.set_exception(exception)
-
-
-class _Channel(asyncio.Protocol, ABC):
-    """Lines that go to a session, and who waits for the answers."""
-
-    def __init__(self, waiters: Waiters) -> None:
-        self.waiters = waiters
-        self.has_ended = False
-        self.is_closing = False    # no line follows
-        self._loop = asyncio.get_running_loop()
-        self._end: asyncio.Future[None] = self._loop.create_future()
-        self._room: asyncio.Future[None] | None = None    # where the other side doesn't read as fast
-        self._cutter = Cutter()
-        self._said = ""
-        self._writer: asyncio.WriteTransport
-        self._ending: asyncio.Task[None] | None = None
-
-    # What differs
-
-    @abstractmethod
-    async def _note_end(self) -> None:
-        """Notes how it ended, once nothing more is read."""
-
-    @abstractmethod
-    def end_error(self) -> Ended:
-        """The error of who still waits after the end."""
-
-    @abstractmethod
-    def end_input(self) -> None:
-        """No line follows. Each that was sent is answered."""
-
-    @abstractmethod
-    def kill(self) -> None:
-        """Brings the end at once."""
-
-    @abstractmethod
-    def close_in_child(self) -> None:
-        """Closes this process's ends, and nothing else."""
-
-    # What is the same
-
-    @property
-    def takes_lines(self) -> bool:
-        """Whether a line can be sent without waiting for room."""
-        return self._room is None and not self.has_ended and not self.is_closing
-
-    async def put(self, line: bytes, decode: Decode[AnswerType]) -> asyncio.Future[AnswerType]:
-        """Sends a line, as soon as there is room."""
-        while self._room is not None:
-            await asyncio.shield(self._room)
-        if self.has_ended:
-            raise self.end_error()
-        if self.is_closing:
-            raise Closed
-        future: asyncio.Future[AnswerType] = self._loop.create_future()
-        self.put_now(line, decode, _Wait(future))
-        return future
-
-    def put_now(self, line: bytes, decode: Decode[Any], waiting: Waiting) -> None:
-        """Sends a line where there is room for it."""
-        self.waiters.add(decode, waiting)
-        self._writer.write(line)
-
-    async def join(self, seconds: float | None) -> None:
-        """Waits for the end, and brings it where it doesn't come in time."""
-        await asyncio.wait([self._end], timeout=seconds)
-        if not self._end.done():
-            self.kill()
-            await asyncio.wait([self._end])
-
-    def data_received(self, data: bytes) -> None:
-        line = b""
-        try:
-            for line in self._cutter.lines(data):
-                self.waiters.hand_over(line)
-        except Farewell as farewell:
-            self._said = str(farewell)
-            self.kill()
-        except Exception as error:    # Whatever it is, those who wait have to be told.
-            self._said = f"what came is no answer: {line[:200]!r}: {error!r}"
-            self.kill()
-
-    def connection_lost(self, error: Exception | None) -> None:
-        if error is not None and not self._said:
-            self._said = str(error)
-        if self._ending is None:
-            self._ending = self._loop.create_task(self._come_to_end())
-
-    async def _come_to_end(self) -> None:
-        try:
-            await self._note_end()
-        finally:
-            self.has_ended = True
-            self.resume_writing()
-            self.waiters.wake_all(self.end_error)
-            self._end.set_result(None)
-
-    def pause_writing(self) -> None:
-        if self._room is None and not self.has_ended:
-            self._room = self._loop.create_future()
-
-    def resume_writing(self) -> None:
-        room, self._room = self._room, None
-        if room is not None:
-            room.set_result(None)
-
-
-class _InputOf(asyncio.BaseProtocol):
-    """The pipe to a program, whose channel is told when it is full."""
-
-    def __init__(self, channel: _Channel) -> None:
-        self._channel = channel
-
-    def pause_writing(self) -> None:
-        self._channel.pause_writing()
-
-    def resume_writing(self) -> None:
-        self._channel.resume_writing()
-
-
-class _Program(_Channel):
-    """A session over the pipes of a program that was started for it."""
-
-    def __init__(self, command: Sequence[str], has_log: bool, told: Told) -> None:
-        super().__init__(WaitersByCall(told, has_log))
-        self.exit_status: int | None = None
-        self._standard_error = ""
-        self._process = program.Process(command)
-        close_in_children(self)
-
-    def connection_made(self, transport: asyncio.BaseTransport) -> None:
-        self._answers = transport
-
-    async def start(self) -> None:
-        connect_input, connect_output = self._loop.connect_write_pipe, self._loop.connect_read_pipe
-        try:
-            self._writer, _ = await connect_input(lambda: _InputOf(self), self._process.input)
-            await connect_output(lambda: self, self._process.output)
-        except BaseException:
-            self._process.kill()
-            self._process.wait()
-            self._process.end_input()
-            self._process.take_standard_error()
-            raise
-
-    async def _note_end(self) -> None:
-        if not self._writer.is_closing():
-            self._writer.abort()
-        if self._said:
-            self._process.kill()
-        self.exit_status = await self._ended()
-        self._standard_error = self._process.take_standard_error() + (f"{self._said}\n" if self._said else "")
-
-    async def _ended(self) -> int:
-        """Waits until the process has ended, and ends it where it doesn't. It has closed its output, so
-        this takes no time as a rule."""
-        late, pause = self._loop.time() + program.GRACE, 0.0
-        while (status := self._process.poll()) is None:
-            if self._loop.time() > late:
-                self._process.kill()
-            await asyncio.sleep(pause)
-            pause = min(0.05, 2 * pause + 0.001)
-        return status
-
-    def end_error(self) -> Lost:
-        return Lost(self.exit_status or 0, self._standard_error)
-
-    def end_input(self) -> None:
-        self.is_closing = True
-        self._writer.close()
-
-    def kill(self) -> None:
-        self._process.kill()
-        self._answers.close()
-
-    def close_in_child(self) -> None:
-        self._process.close_in_child()
-
-
-class _Connection(_Channel):
-    """A session behind a socket, which others use, too."""
-
-    def __init__(self, path: str | os.PathLike[str], told: Told) -> None:
-        super().__init__(WaitersInOrder(told))
-        self._path = os.fspath(path)
-        self._socket = socket.socket(socket.AF_UNIX, socket.SOCK_STREAM)
-        close_in_children(self)
-
-    async def start(self) -> None:
-        try:
-            self._socket.setblocking(False)
-            await self._connect()
-        except (OSError, ValueError) as error:
-            self._socket.close()
-            raise NotConnected(self._path) from error
-        except BaseException:
-            self._socket.close()
-            raise
-        await self._loop.create_unix_connection(lambda: self, sock=self._socket)
-
-    def connection_made(self, transport: asyncio.BaseTransport) -> None:
-        self._writer = cast(asyncio.Transport, transport)
-
-    async def _connect(self) -> None:
-        """Connects, where need be when the server has taken some of those who wait for it already."""
-        while True:
-            try:
-                return self._socket.connect(self._path)
-            except BlockingIOError:
-                await asyncio.sleep(0.01)
-
-    def data_received(self, data: bytes) -> None:
-        super().data_received(data)
-        if self.is_closing and not len(self.waiters):
-            self._writer.close()
-
-    async def _note_end(self) -> None:
-        self._writer.close()
-
-    def end_error(self) -> Disconnected:
-        return Disconnected(self._path, self._said)
-
-    def end_input(self) -> None:
-        if self.is_closing:
-            return
-        self.is_closing = True
-        if self.has_ended or not len(self.waiters):
-            self._writer.close()
-        else:
-            self._writer.write_eof()    # The last answer brings the end.
-
-    def kill(self) -> None:
-        self._writer.abort()
-
-    def close_in_child(self) -> None:
-        self._socket.close()
 
 
 class Session:
@@ -307,8 +51,8 @@ class Session:
         if reopen and log is None:
             raise ValueError("only a session with a log can be opened again")
 
-        def make(is_again: bool, told: Told) -> _Program:
-            return _Program(program.of_log(command, log, is_again), log is not None, told)
+        def make(is_again: bool, told: Told) -> Program:
+            return Program(program.of_log(command, log, is_again), log is not None, told)
 
         self._prepare(make, Opening(tables, keep, records), reopen, keep_slots, timeout)
 
@@ -321,11 +65,11 @@ class Session:
         parameters as `timetravel.Session.connect`. Raises `ValueError` or `TypeError` for what a line
         can't carry."""
         session = cls.__new__(cls)
-        session._prepare(lambda _, told: _Connection(socket, told), Opening(tables, keep, records, reads),
+        session._prepare(lambda _, told: Connection(socket, told), Opening(tables, keep, records, reads),
                          reopen, keep_slots, timeout)
         return session
 
-    def _prepare(self, make: Callable[[bool, Told], _Program | _Connection], opening: Opening,
+    def _prepare(self, make: Callable[[bool, Told], Program | Connection], opening: Opening,
                  reopens: bool, keep_slots: int | None, timeout: float | None) -> None:
         self._make = make
         self._opening = opening
@@ -336,7 +80,7 @@ class Session:
         self._closed = False
         self._told = Told()
         self._starting = asyncio.Lock()
-        self._channel: _Program | _Connection | None = None
+        self._channel: Program | Connection | None = None
 
     async def open(self) -> Session:
         """Starts the program or connects, and opens the database. A session that is open stays so.
@@ -359,7 +103,7 @@ class Session:
     @property
     def exit_status(self) -> int | None:
         """The program's exit status; None while it runs, and for a connection."""
-        return self._channel.exit_status if isinstance(self._channel, _Program) else None
+        return self._channel.exit_status if isinstance(self._channel, Program) else None
 
     async def close(self) -> None:
         """Ends what is sent. All that was sent is answered; then the program ends, or this connection,
@@ -472,40 +216,85 @@ class Session:
 
     # Repairs
 
-    async def repair(self, edits: Iterable[Edit], *, step: int = 100,
+    @overload
+    async def repair(self, edits: Iterable[Edit], *, dry: Literal[False] = ..., step: int | None = ...,
+                     progress: Callable[[Progress], object] | None = ..., worker: int | None = ...,
+                     timeout: float | None = ...) -> Switched: ...
+
+    @overload
+    async def repair(self, edits: Iterable[Edit], *, dry: Literal[True], step: int | None = ...,
+                     progress: Callable[[Progress], object] | None = ..., worker: int | None = ...,
+                     timeout: float | None = ...) -> Trial: ...
+
+    @overload
+    async def repair(self, edits: Iterable[Edit], *, dry: bool, step: int | None = ...,
+                     progress: Callable[[Progress], object] | None = ..., worker: int | None = ...,
+                     timeout: float | None = ...) -> Switched | Trial: ...
+
+    async def repair(self, edits: Iterable[Edit], *, dry: bool = False, step: int | None = None,
                      progress: Callable[[Progress], object] | None = None, worker: int | None = None,
-                     timeout: float | None = None) -> Switched:
-        """A whole repair: begins it, does `step` slots at a time until none is left, and makes the
-        repaired data the current ones. Other requests are answered between the steps. Where the beginning
-        is refused, nothing else is sent. What it asks is meant for a repair of this `worker` alone, so give
-        each client that repairs one of its own.
+                     timeout: float | None = None) -> Switched | Trial:
+        """A whole repair: begins it, does `step` slots at a time (100, or 1,000 of a dry run) until none is
+        left, and makes the repaired data the current ones. Other requests are answered between the steps.
+        Where the beginning is refused, nothing else is sent. What it asks is meant for a repair of this
+        `worker` alone, so give each client that repairs one of its own.
+
+        A `dry` run returns what the repair has come to, and aborts it: the current data stay. It reads that
+        in pages, so it tells the same as `would`, and no other request waits long for it. In the history
+        and in the log it is a repair that was given up.
 
         `progress` is called after each step, and awaited where it returns something to await. Where it
-        raises something, or a step fails, or the task is cancelled, the repair is aborted, and that is
+        raises something, or a request fails, or the task is cancelled, the repair is aborted, and that is
         raised. `timeout` is for each request.
 
         Raises what `begin`, `step` and `finish` do. After a `NoAnswer` of the beginning or of the end the
         repair may be under way, or done: `status` tells.
         """
-        stepped = await self.begin(edits, worker=worker, timeout=timeout)
+        trial: Trial | None = None
+        slots = step if step is not None else 1000 if dry else 100
+        stepped = begun = await self.begin(edits, worker=worker, timeout=timeout)
         try:
             while stepped.left > 0:
-                stepped = await self.step(step, worker=worker, timeout=timeout)
+                stepped = await self.step(slots, worker=worker, timeout=timeout)
                 told = None if progress is None else progress(stepped)
                 if inspect.isawaitable(told):
                     await told
+            if dry:
+                trial = await self._trial(begun.call, worker, timeout)
         except (NotRepairing, RepairOfAnother):
             raise    # Somebody else has ended it, and perhaps begun another.
         except BaseException:
             await self._give_up(worker, timeout)
             raise
         try:
-            return await self.finish(worker=worker, timeout=timeout)
+            if trial is None:
+                return await self.finish(worker=worker, timeout=timeout)
+            await self.abort(worker=worker, timeout=timeout)    # It is refused if the pages were of another's.
+            return trial
         except (NotRepairing, RepairOfAnother):
             raise
         except Refused:
             await self._give_up(worker, timeout)
             raise
+
+    async def _trial(self, call: int, worker: int | None, timeout: float | None) -> Trial:
+        """What the repair under way has come to. Where it goes on meanwhile, this is read again."""
+        while True:
+            causes = await self.why(most=PAGE, worker=worker, timeout=timeout)
+            redone, done = causes.redone, causes.done
+            while causes.more:
+                causes = await self.why(after=redone[-1].slot, most=PAGE, worker=worker, timeout=timeout)
+                redone += causes.redone
+            changed = [change async for page in self.change_pages("next", worker=worker, timeout=timeout)
+                       for change in page.changed]
+            found = await self.diff(most=PAGE, worker=worker, timeout=timeout)
+            diff = found.diff
+            while found.more:
+                last = diff[-1].table, diff[-1].key
+                found = await self.diff(after=last, most=PAGE, worker=worker, timeout=timeout)
+                diff += found.diff
+            if found.done == done:
+                return Trial(call, done, len(redone), redone, changed, diff)
 
     async def _give_up(self, worker: int | None, timeout: float | None) -> None:
         """Aborts a repair because of an error that is about to be raised."""
@@ -582,14 +371,38 @@ class Session:
         request = requests.slots(first, last, of, row)
         return await self._ask(request, self._opening.slots, worker, if_time, timeout)
 
-    async def changes(self, which: Literal["now", "next"] = "now", *, worker: int | None = None,
+    async def changes(self, which: Literal["now", "next"] = "now", *, of: int | None = None,
+                      only: Literal["writes", "reads"] | None = None, after: int | None = None,
+                      most: int | None = None, asked: bool = False, worker: int | None = None,
                       if_time: int | None = None, timeout: float | None = None) -> Changes:
-        """The answers that would be others now; with "next" those that the repair will have changed. The
-        numbers of calls are those since the last start of the program, which numbers its log's lines anew.
+        """The answers that would be others now; with "next" those that the repair will have changed. Of
+        these, those to requests of the worker `of`, those `only` to writes or to reads, and those behind the
+        call `after`, of which the first `most`. With `asked` each tells its worker, and what was asked for.
+        The numbers of calls are those since the last start of the program, which numbers its log's lines
+        anew.
 
         Raises `NotRepairing` with "next", and what any request does.
         """
-        return await self._ask({"changes": which}, answers.changes, worker, if_time, timeout)
+        request = requests.changes(which, of, only, after, most, asked)
+        return await self._ask(request, self._opening.changes, worker, if_time, timeout)
+
+    async def change_pages(self, which: Literal["now", "next"] = "now", *, of: int | None = None,
+                           only: Literal["writes", "reads"] | None = None, asked: bool = False,
+                           most: int = PAGE, worker: int | None = None,
+                           timeout: float | None = None) -> AsyncIterator[Changes]:
+        """The changes, `most` at a time. Each page tells what is changed when it is read. `timeout` is for
+        each page.
+
+        Raises what `changes` does.
+        """
+        after = None
+        while True:
+            page = await self.changes(which, of=of, only=only, after=after, most=most, asked=asked,
+                                      worker=worker, timeout=timeout)
+            yield page
+            if not page.more:
+                return
+            after = page.changed[-1].call
 
     async def why(self, generation: int | None = None, *, after: int | None = None, most: int | None = None,
                   worker: int | None = None, if_time: int | None = None,
@@ -602,6 +415,30 @@ class Session:
         """
         request = requests.why(generation, after, most)
         return await self._ask(request, answers.causes, worker, if_time, timeout)
+
+    async def diff(self, generation: int | None = None, *, after: tuple[str, int] | None = None,
+                   most: int | None = None, worker: int | None = None, if_time: int | None = None,
+                   timeout: float | None = None) -> Differences:
+        """The rows that the repair under way has made others, as of the last slot that it has done; or those
+        of the repair that closed a generation that is kept. Of the rows behind `after`, given as a table
+        and a key, the first `most`.
+
+        Raises `NotRepairing`, `NoGeneration` with a generation that isn't kept or is the current one, and
+        what any request does.
+        """
+        request = requests.diff(generation, after, most)
+        return await self._ask(request, self._opening.differences, worker, if_time, timeout)
+
+    async def would(self, edits: Iterable[Edit], *, worker: int | None = None, if_time: int | None = None,
+                    timeout: float | None = None) -> Trial:
+        """What a repair with these edits would come to now. Nothing of it is kept.
+
+        It is one request, which takes as long as the whole repair, while everybody waits: where there are
+        many slots, `repair` with `dry=True` tells the same in pieces.
+
+        Raises `Repairing`, `NoSlot`, `EditedTwice`, `Full`, and what any request does.
+        """
+        return await self._ask({"would": list(edits)}, self._opening.trial, worker, if_time, timeout)
 
     async def tables(self, *, worker: int | None = None, if_time: int | None = None,
                      timeout: float | None = None) -> Tables:
@@ -669,6 +506,16 @@ class Session:
                    ) -> asyncio.Future[Causes]: ...
 
     @overload
+    async def send(self, request: requests.DiffRequest, *, worker: int | None = None,
+                   if_time: int | None = None, timeout: float | None = None
+                   ) -> asyncio.Future[Differences]: ...
+
+    @overload
+    async def send(self, request: requests.WouldRequest, *, worker: int | None = None,
+                   if_time: int | None = None, timeout: float | None = None
+                   ) -> asyncio.Future[Trial]: ...
+
+    @overload
     async def send(self, request: requests.TablesRequest, *, worker: int | None = None,
                    if_time: int | None = None, timeout: float | None = None
                    ) -> asyncio.Future[Tables]: ...
@@ -728,7 +575,7 @@ class Session:
         except asyncio.TimeoutError:
             raise NoAnswer(seconds) from None
 
-    async def _current(self, starts: bool) -> _Program | _Connection:
+    async def _current(self, starts: bool) -> Program | Connection:
         """The channel to a session that is open, which is started where that is to be."""
         if os.getpid() != self._process:
             raise Forked
@@ -746,7 +593,7 @@ class Session:
                 self._channel = await self._start()
             return self._channel
 
-    async def _start(self) -> _Program | _Connection:
+    async def _start(self) -> Program | Connection:
         channel = self._make(self._channel is not None, self._told)
         await channel.start()
         try:

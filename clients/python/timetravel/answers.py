@@ -133,28 +133,39 @@ class Slots:
 @dataclass(frozen=True)
 class ChangedWrite:
     """A write whose replies are others now. `after` is None where its slot is cancelled, or empty where the
-    session has forgotten since."""
+    session has forgotten since. If it was `asked` for, `worker` and `do` have whose write it is and what its
+    action was asked to do, and `whole` tells whether that is whole; otherwise these two are None."""
     call: int
     slot: int
     before: list[Reply]
     after: list[Reply] | None
+    worker: int | None = None
+    do: list[Write] | None = None
+    whole: bool = False
 
 
 @dataclass(frozen=True)
 class ChangedSelect:
-    """A select whose rows are others now. They have no names of columns."""
+    """A select whose rows are others now. If it was `asked` for, `worker`, `table` and `where` have whose
+    select it is and what it reads, and the rows have names of columns; otherwise these three are None, and
+    the rows have no names."""
     call: int
     time: int
     before: list[Row]
     after: list[Row]
+    worker: int | None = None
+    table: str | None = None
+    where: list[list[Value]] | None = None
 
 
 @dataclass(frozen=True)
 class Changes:
-    """The changed replies by rising call. Records are kept of `first_call` and of later calls."""
+    """The changed replies by rising call. Records are kept of `first_call` and of later calls. `more` is
+    None where no `most` was given."""
     call: int
     first_call: int
     changed: list[ChangedWrite | ChangedSelect]
+    more: bool | None = None
 
 
 @dataclass(frozen=True)
@@ -183,6 +194,39 @@ class Causes:
 
 
 @dataclass(frozen=True)
+class Difference:
+    """A row that differs by a repair: `before` is the row of this key without the repair, `after` the one
+    with it, and None stands for no row."""
+    table: str
+    key: int
+    before: Row | None
+    after: Row | None
+
+
+@dataclass(frozen=True)
+class Differences:
+    """The rows that differ after the `done` slots that a repair has done, in the order of the tables, and
+    then by rising key. `more` is None where no `most` was given."""
+    call: int
+    done: int
+    diff: list[Difference]
+    more: bool | None = None
+
+
+@dataclass(frozen=True)
+class Trial:
+    """What a repair would come to: how many slots it would do, and how many of these re-execute; the
+    re-executed slots with their causes; the replies that it would change; and the rows that would differ.
+    Of a dry run by `repair`, `call` is that of its beginning."""
+    call: int
+    slots: int
+    rerun: int
+    redone: list[Redone]
+    changed: list[ChangedWrite | ChangedSelect]
+    diff: list[Difference]
+
+
+@dataclass(frozen=True)
 class Tables:
     """The opening of this session, with every member."""
     call: int
@@ -192,7 +236,8 @@ class Tables:
     records: int
 
 
-Answer = Union[Written, Selected, Previewed, Stepped, Switched, Status, Slots, Changes, Tables, Causes]
+Answer = Union[Written, Selected, Previewed, Stepped, Switched, Status, Slots, Changes, Tables, Causes,
+               Differences, Trial]
 
 # Lines
 
@@ -291,16 +336,20 @@ def _writes(rows: Mapping[str, type[Row]], found: list[Any] | None) -> list[Writ
     return found
 
 
-def changes(found: Members) -> Changes:
-    return Changes(found["call"], found["from"], [_changed(each) for each in found["changed"]])
+def changes(rows: Mapping[str, type[Row]], found: Members) -> Changes:
+    return Changes(found["call"], found["from"], [_changed(rows, each) for each in found["changed"]],
+                   found.get("more"))
 
 
-def _changed(found: Members) -> ChangedWrite | ChangedSelect:
+def _changed(rows: Mapping[str, type[Row]], found: Members) -> ChangedWrite | ChangedSelect:
     if "time" in found:
-        return ChangedSelect(found["call"], found["time"], list(map(Row, found["before"])),
-                             list(map(Row, found["after"])))
+        row = rows.get(found.get("select", ""), Row)
+        return ChangedSelect(found["call"], found["time"], list(map(row, found["before"])),
+                             list(map(row, found["after"])), found.get("worker"), found.get("select"),
+                             found.get("where"))
     after = None if found["after"] == "cancelled" else _replies(found["after"])
-    return ChangedWrite(found["call"], found["slot"], _replies(found["before"]), after)
+    return ChangedWrite(found["call"], found["slot"], _replies(found["before"]), after, found.get("worker"),
+                        _writes(rows, found.get("do")), found.get("whole", False))
 
 
 def causes(found: Members) -> Causes:
@@ -311,6 +360,23 @@ def causes(found: Members) -> Causes:
 def _redone(found: Members) -> Redone:
     return Redone(found["slot"], found["because"], found.get("table"), found.get("key"), found.get("column"),
                   found.get("value"), found.get("since"))
+
+
+def differences(rows: Mapping[str, type[Row]], found: Members) -> Differences:
+    return Differences(found["call"], found["done"], [_difference(rows, each) for each in found["diff"]],
+                       found.get("more"))
+
+
+def _difference(rows: Mapping[str, type[Row]], found: Members) -> Difference:
+    row, before, after = rows.get(found["table"], Row), found["before"], found["after"]
+    return Difference(found["table"], found["key"], None if before is None else row(before),
+                      None if after is None else row(after))
+
+
+def trial(rows: Mapping[str, type[Row]], found: Members) -> Trial:
+    return Trial(found["call"], found["slots"], found["rerun"], [_redone(each) for each in found["redone"]],
+                 [_changed(rows, each) for each in found["changed"]],
+                 [_difference(rows, each) for each in found["diff"]])
 
 
 def tables(found: Members) -> Tables:

@@ -17,7 +17,7 @@ from typing import Any
 from .lines import BLANK
 
 KINDS = ("insert", "update", "delete", "select", "preview", "do", "begin", "step", "finish", "abort",
-         "status", "slots", "changes", "tables", "why", "forget")
+         "status", "slots", "changes", "tables", "why", "diff", "would", "forget")
 SLOTS, ENTRIES = 1_000_000, 4_000_000    # what a database has room for
 
 _BOUNDS = (0.0001, 0.00025, 0.0005, 0.001, 0.0025, 0.005, 0.01, 0.025, 0.05, 0.1, 0.25, 0.5, 1.0, 2.5, 5.0,

@@ -8,7 +8,7 @@ from functools import partial
 from typing import Any
 
 from . import answers, requests
-from .answers import Decode, Previewed, Selected, Slots
+from .answers import Changes, Decode, Differences, Previewed, Selected, Slots, Trial
 from .tables import Row, Table, in_order, row_of
 
 
@@ -32,7 +32,13 @@ class Opening:
         self._rows: dict[str, type[Row]] = {}
         self._selected: dict[str, Decode[Selected]] = {}
         self._previewed: dict[str, Decode[Previewed]] = {}
-        self.slots: Decode[Slots] = partial(answers.slots, self._rows)    # how answers with slots are read
+        # How answers are read that have rows of several tables.
+        self.slots: Decode[Slots] = partial(answers.slots, self._rows)
+        self.changes: Decode[Changes] = partial(answers.changes, self._rows)
+        self.differences: Decode[Differences] = partial(answers.differences, self._rows)
+        self.trial: Decode[Trial] = partial(answers.trial, self._rows)
+        self._of_tables: dict[str, Decode[Any]] = {
+            "slots": self.slots, "changes": self.changes, "diff": self.differences, "would": self.trial}
         for table in declared:
             self._know(table)
 
@@ -57,7 +63,10 @@ class Opening:
         elif "do" in members:
             members = self._action(members)
         elif "begin" in members:
-            members = self._begin(members, worker)
+            self._beginners.add(_worker(members, worker))
+            members = self._edits("begin", members)
+        elif "would" in members:
+            members = self._edits("would", members)
         elif "of" not in members and ("step" in members or "finish" in members or "abort" in members):
             worker_of_it = _worker(members, worker)
             if worker_of_it in self._beginners:
@@ -68,11 +77,11 @@ class Opening:
             members = {"worker": worker, **members}
         return requests.line(members)
 
-    def _begin(self, members: Mapping[str, Any], worker: int | None) -> Mapping[str, Any]:
-        self._beginners.add(_worker(members, worker))
-        if not isinstance(members["begin"], (list, tuple)):
+    def _edits(self, kind: str, members: Mapping[str, Any]) -> Mapping[str, Any]:
+        edits = members[kind]
+        if not isinstance(edits, (list, tuple)):
             return members
-        return {**members, "begin": [self._edit(edit) for edit in members["begin"]]}
+        return {**members, kind: [self._edit(edit) for edit in edits]}
 
     def _action(self, members: Mapping[str, Any]) -> Mapping[str, Any]:
         writes = members["do"]
@@ -112,7 +121,7 @@ class Opening:
                     return self.selected(members["select"])
                 if kind == "preview" and isinstance(members["preview"], str):
                     return self.previewed(members["preview"])
-                return self.slots if kind == "slots" else decode
+                return self._of_tables.get(kind, decode)
         return _refused
 
 
@@ -135,5 +144,6 @@ _DECODE: dict[str, Decode[Any]] = {
     "select": _plainly_selected, "preview": _plainly_previewed, "do": answers.written,
     "begin": answers.stepped, "step": answers.stepped, "finish": answers.switched,
     "abort": answers.status, "status": answers.status, "slots": partial(answers.slots, {}),
-    "changes": answers.changes, "tables": answers.tables, "why": answers.causes,
+    "changes": partial(answers.changes, {}), "tables": answers.tables, "why": answers.causes,
+    "diff": partial(answers.differences, {}), "would": partial(answers.trial, {}),
     "forget": answers.status}

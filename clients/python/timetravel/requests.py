@@ -11,6 +11,9 @@ from typing import Any, Literal, TypedDict, Union, overload
 from .tables import Row, Value
 
 
+PAGE = 1000    # entries of a list that is asked for in pages, if it isn't said otherwise
+
+
 @dataclass(frozen=True)
 class Compared:
     """How a column compares with a value: `is_not`, `below`, `at_most`, `above` and `at_least` make it."""
@@ -124,9 +127,17 @@ class SlotsRequest(_SlotsRequest, total=False):
     row: list[Value]    # a table and a key
 
 
-class ChangesRequest(TypedDict):
-    """The answers that are others now."""
+class _ChangesRequest(TypedDict):
     changes: Literal["now", "next"]
+
+
+class ChangesRequest(_ChangesRequest, total=False):
+    """The answers that are others now."""
+    of: int    # the worker of the requests
+    only: Literal["writes", "reads"]
+    after: int    # a call
+    most: int
+    asked: bool    # whether they are told with what was asked for
 
 
 class _WhyRequest(TypedDict):
@@ -139,6 +150,23 @@ _WhyBounds = TypedDict("_WhyBounds", {"in": int, "after": int, "most": int}, tot
 
 class WhyRequest(_WhyRequest, _WhyBounds):
     """Why a repair has re-executed its slots."""
+
+
+class _DiffRequest(TypedDict):
+    diff: Literal[True]
+
+
+# Of which repair it is asked, and of which rows: those behind a table and a key.
+_DiffBounds = TypedDict("_DiffBounds", {"in": int, "after": list[Value], "most": int}, total=False)
+
+
+class DiffRequest(_DiffRequest, _DiffBounds):
+    """Which rows differ between the generations of a repair."""
+
+
+class WouldRequest(TypedDict):
+    """What a repair with these edits would come to."""
+    would: list[Edit]
 
 
 class TablesRequest(TypedDict):
@@ -269,7 +297,7 @@ def do(writes: Iterable[Write], *, whole: bool = False) -> DoRequest:
     return request
 
 
-def _bound(request: SelectRequest | PreviewRequest | WhyRequest, after: int | None,
+def _bound(request: SelectRequest | PreviewRequest | ChangesRequest | WhyRequest, after: int | None,
            most: int | None) -> None:
     """Asks for one page of what is told."""
     if after is not None:
@@ -333,12 +361,40 @@ def slots(first: int, last: int, of: int | None, row: tuple[str, int] | None) ->
     return request
 
 
+def changes(which: Literal["now", "next"], of: int | None, only: Literal["writes", "reads"] | None,
+            after: int | None, most: int | None, asked: bool) -> ChangesRequest:
+    """The answers that are others now, or will be after the repair: those to requests of a worker, or of a
+    kind; and whether they are told with what was asked for."""
+    request: ChangesRequest = {"changes": which}
+    if of is not None:
+        request["of"] = of
+    if only is not None:
+        request["only"] = only
+    _bound(request, after, most)
+    if asked:
+        request["asked"] = True
+    return request
+
+
 def why(generation: int | None, after: int | None, most: int | None) -> WhyRequest:
     """Why the repair under way, or the one that closed a generation, has re-executed its slots."""
     request: WhyRequest = {"why": True}
     if generation is not None:
         request["in"] = generation
     _bound(request, after, most)
+    return request
+
+
+def diff(generation: int | None, after: tuple[str, int] | None, most: int | None) -> DiffRequest:
+    """Which rows differ between the generations of the repair under way, or of the one that closed a
+    generation."""
+    request: DiffRequest = {"diff": True}
+    if generation is not None:
+        request["in"] = generation
+    if after is not None:
+        request["after"] = list(after)
+    if most is not None:
+        request["most"] = most
     return request
 
 

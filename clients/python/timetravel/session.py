@@ -11,14 +11,15 @@ from typing import Any, Literal, TypeVar, overload
 
 from . import answers, requests
 from .answers import (
-    Causes, Changes, Decode, Previewed, Progress, Selected, Slots, Status, Stepped, Switched, Tables, Written)
+    Causes, Changes, Decode, Differences, Previewed, Progress, Selected, Slots, Status, Stepped, Switched, Tables,
+    Trial, Written)
 from .channel import Channel
 from .connection import Connection
 from .errors import Closed, Error, Forked, NoAnswer, NotRepairing, Refused, RepairOfAnother
 from .keeping import Keeping
 from .opening import Opening
 from .program import Program, of_log
-from .requests import Change, Edit, NewRow, Where, Write
+from .requests import PAGE, Change, Edit, NewRow, Where, Write
 from .tables import Table, Value
 from .told import Told
 from .waiting import Deadline, SentFuture, Wait, Waiting, seconds_left
@@ -275,38 +276,83 @@ class Session:
 
     # Repairs
 
-    def repair(self, edits: Iterable[Edit], *, step: int = 100,
-               progress: Callable[[Progress], object] | None = None, worker: int | None = None,
-               timeout: float | None = None) -> Switched:
-        """A whole repair: begins it, does `step` slots at a time until none is left, and makes the
-        repaired data the current ones. Other requests are answered between the steps. Where the beginning
-        is refused, nothing else is sent. What it asks is meant for a repair of this `worker` alone, so give
-        each client that repairs one of its own.
+    @overload
+    def repair(self, edits: Iterable[Edit], *, dry: Literal[False] = ..., step: int | None = ...,
+               progress: Callable[[Progress], object] | None = ..., worker: int | None = ...,
+               timeout: float | None = ...) -> Switched: ...
 
-        `progress` is called after each step. Where it raises something, or a step fails, or the waiting
+    @overload
+    def repair(self, edits: Iterable[Edit], *, dry: Literal[True], step: int | None = ...,
+               progress: Callable[[Progress], object] | None = ..., worker: int | None = ...,
+               timeout: float | None = ...) -> Trial: ...
+
+    @overload
+    def repair(self, edits: Iterable[Edit], *, dry: bool, step: int | None = ...,
+               progress: Callable[[Progress], object] | None = ..., worker: int | None = ...,
+               timeout: float | None = ...) -> Switched | Trial: ...
+
+    def repair(self, edits: Iterable[Edit], *, dry: bool = False, step: int | None = None,
+               progress: Callable[[Progress], object] | None = None, worker: int | None = None,
+               timeout: float | None = None) -> Switched | Trial:
+        """A whole repair: begins it, does `step` slots at a time (100, or 1,000 of a dry run) until none is
+        left, and makes the repaired data the current ones. Other requests are answered between the steps.
+        Where the beginning is refused, nothing else is sent. What it asks is meant for a repair of this
+        `worker` alone, so give each client that repairs one of its own.
+
+        A `dry` run returns what the repair has come to, and aborts it: the current data stay. It reads that
+        in pages, so it tells the same as `would`, and no other request waits long for it. In the history
+        and in the log it is a repair that was given up.
+
+        `progress` is called after each step. Where it raises something, or a request fails, or the waiting
         is interrupted, the repair is aborted, and that is raised. `timeout` is for each request.
 
         Raises what `begin`, `step` and `finish` do. After a `NoAnswer` of the beginning or of the end the
         repair may be under way, or done: `status` tells.
         """
-        stepped = self.begin(edits, worker=worker, timeout=timeout)
+        trial: Trial | None = None
+        slots = step if step is not None else 1000 if dry else 100
+        stepped = begun = self.begin(edits, worker=worker, timeout=timeout)
         try:
             while stepped.left > 0:
-                stepped = self.step(step, worker=worker, timeout=timeout)
+                stepped = self.step(slots, worker=worker, timeout=timeout)
                 if progress is not None:
                     progress(stepped)
+            if dry:
+                trial = self._trial(begun.call, worker, timeout)
         except (NotRepairing, RepairOfAnother):
             raise    # Somebody else has ended it, and perhaps begun another.
         except BaseException:
             self._give_up(worker, timeout)
             raise
         try:
-            return self.finish(worker=worker, timeout=timeout)
+            if trial is None:
+                return self.finish(worker=worker, timeout=timeout)
+            self.abort(worker=worker, timeout=timeout)    # It is refused if the pages were of another's.
+            return trial
         except (NotRepairing, RepairOfAnother):
             raise
         except Refused:
             self._give_up(worker, timeout)
             raise
+
+    def _trial(self, call: int, worker: int | None, timeout: float | None) -> Trial:
+        """What the repair under way has come to. Where it goes on meanwhile, this is read again."""
+        while True:
+            causes = self.why(most=PAGE, worker=worker, timeout=timeout)
+            redone, done = causes.redone, causes.done
+            while causes.more:
+                causes = self.why(after=redone[-1].slot, most=PAGE, worker=worker, timeout=timeout)
+                redone += causes.redone
+            changed = [change for page in self.change_pages("next", worker=worker, timeout=timeout)
+                       for change in page.changed]
+            found = self.diff(most=PAGE, worker=worker, timeout=timeout)
+            diff = found.diff
+            while found.more:
+                last = diff[-1].table, diff[-1].key
+                found = self.diff(after=last, most=PAGE, worker=worker, timeout=timeout)
+                diff += found.diff
+            if found.done == done:
+                return Trial(call, done, len(redone), redone, changed, diff)
 
     def _give_up(self, worker: int | None, timeout: float | None) -> None:
         """Aborts a repair because of an error that is about to be raised."""
@@ -383,14 +429,37 @@ class Session:
         request = requests.slots(first, last, of, row)
         return self._ask(request, self._opening.slots, worker, if_time, timeout)
 
-    def changes(self, which: Literal["now", "next"] = "now", *, worker: int | None = None,
+    def changes(self, which: Literal["now", "next"] = "now", *, of: int | None = None,
+                only: Literal["writes", "reads"] | None = None, after: int | None = None,
+                most: int | None = None, asked: bool = False, worker: int | None = None,
                 if_time: int | None = None, timeout: float | None = None) -> Changes:
-        """The answers that would be others now; with "next" those that the repair will have changed. The
-        numbers of calls are those since the last start of the program, which numbers its log's lines anew.
+        """The answers that would be others now; with "next" those that the repair will have changed. Of
+        these, those to requests of the worker `of`, those `only` to writes or to reads, and those behind the
+        call `after`, of which the first `most`. With `asked` each tells its worker, and what was asked for.
+        The numbers of calls are those since the last start of the program, which numbers its log's lines
+        anew.
 
         Raises `NotRepairing` with "next", and what any request does.
         """
-        return self._ask({"changes": which}, answers.changes, worker, if_time, timeout)
+        request = requests.changes(which, of, only, after, most, asked)
+        return self._ask(request, self._opening.changes, worker, if_time, timeout)
+
+    def change_pages(self, which: Literal["now", "next"] = "now", *, of: int | None = None,
+                     only: Literal["writes", "reads"] | None = None, asked: bool = False, most: int = PAGE,
+                     worker: int | None = None, timeout: float | None = None) -> Iterator[Changes]:
+        """The changes, `most` at a time. Each page tells what is changed when it is read. `timeout` is for
+        each page.
+
+        Raises what `changes` does.
+        """
+        after = None
+        while True:
+            page = self.changes(which, of=of, only=only, after=after, most=most, asked=asked, worker=worker,
+                                timeout=timeout)
+            yield page
+            if not page.more:
+                return
+            after = page.changed[-1].call
 
     def why(self, generation: int | None = None, *, after: int | None = None, most: int | None = None,
             worker: int | None = None, if_time: int | None = None, timeout: float | None = None) -> Causes:
@@ -401,6 +470,30 @@ class Session:
         what any request does.
         """
         return self._ask(requests.why(generation, after, most), answers.causes, worker, if_time, timeout)
+
+    def diff(self, generation: int | None = None, *, after: tuple[str, int] | None = None,
+             most: int | None = None, worker: int | None = None, if_time: int | None = None,
+             timeout: float | None = None) -> Differences:
+        """The rows that the repair under way has made others, as of the last slot that it has done; or those
+        of the repair that closed a generation that is kept. Of the rows behind `after`, given as a table
+        and a key, the first `most`.
+
+        Raises `NotRepairing`, `NoGeneration` with a generation that isn't kept or is the current one, and
+        what any request does.
+        """
+        return self._ask(requests.diff(generation, after, most), self._opening.differences, worker, if_time,
+                         timeout)
+
+    def would(self, edits: Iterable[Edit], *, worker: int | None = None, if_time: int | None = None,
+              timeout: float | None = None) -> Trial:
+        """What a repair with these edits would come to now. Nothing of it is kept.
+
+        It is one request, which takes as long as the whole repair, while everybody waits: where there are
+        many slots, `repair` with `dry=True` tells the same in pieces.
+
+        Raises `Repairing`, `NoSlot`, `EditedTwice`, `Full`, and what any request does.
+        """
+        return self._ask({"would": list(edits)}, self._opening.trial, worker, if_time, timeout)
 
     def tables(self, *, worker: int | None = None, if_time: int | None = None,
                timeout: float | None = None) -> Tables:
@@ -458,6 +551,14 @@ class Session:
     @overload
     def send(self, request: requests.WhyRequest, *, worker: int | None = None,
              if_time: int | None = None, timeout: float | None = None) -> Future[Causes]: ...
+
+    @overload
+    def send(self, request: requests.DiffRequest, *, worker: int | None = None,
+             if_time: int | None = None, timeout: float | None = None) -> Future[Differences]: ...
+
+    @overload
+    def send(self, request: requests.WouldRequest, *, worker: int | None = None,
+             if_time: int | None = None, timeout: float | None = None) -> Future[Trial]: ...
 
     @overload
     def send(self, request: requests.TablesRequest, *, worker: int | None = None,

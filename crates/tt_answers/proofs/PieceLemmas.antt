@@ -2,6 +2,8 @@
 use Rattle.std.specs.Prelude.{if◌then◌else◌}
 use Rattle.std.proofs.Common.{◌≡◌, ℕ, ◌==◌, Bool, false, List, [], ◌∷◌, ◌++◌, map, ap, sym, ◌∙◌, append_assoc, append-nil, codes}
 use Rattle.std.specs.List.{flat_map}
+use Rattle.std.proofs.lemmas.Grind.{flat_map-append}
+use Rattle.std.proofs.lemmas.List.{map-append}
 use Rattle.std.specs.Fmt.{decimal}
 use Rattle.tt_requests.specs.declared.told.ToldTime.{ToldTime}
 use Rattle.tt_requests.specs.Numbers.{Numbering}
@@ -23,15 +25,30 @@ slot-pieces out one two label_3 three label_4 four more all name_1 number_1 name
         ≡ out ++ (name_1 ++ ((number_1 ++ (name_2 ++ (number_2 ++ (comma ++ (members ++ (name_4 ++ (value_4 ++ last))))))) ++ end))
     whole = simp append_assoc
 
--- an object of a number, a member and two values
-pub changed-pieces : (out one two label_3 three label_4 four all name_1 number_1 member name_3 value_3 name_4 value_4 end : List ℕ)
-    → one ≡ out ++ (name_1 ++ number_1) → two ≡ one ++ member → label_3 ≡ two ++ name_3 → three ≡ label_3 ++ value_3
-    → label_4 ≡ three ++ name_4 → four ≡ label_4 ++ value_4 → all ≡ four ++ end
-    → all ≡ out ++ (name_1 ++ ((number_1 ++ (member ++ (name_3 ++ (value_3 ++ (name_4 ++ (value_4 ++ [])))))) ++ end))
-changed-pieces out one two label_3 three label_4 four all name_1 number_1 member name_3 value_3 name_4 value_4 end p q r s t u v =
-    v ∙ ap (λ o. o ++ end) (u ∙ ap (λ o. o ++ value_4) (t ∙ ap (λ o. o ++ name_4) (s ∙ ap (λ o. o ++ value_3)
-    (r ∙ ap (λ o. o ++ name_3) (q ∙ ap (λ o. o ++ member) p)))))
-    ∙ simp (append_assoc, append-nil)
+-- members behind others
+further-append : (first others : List Member)
+    → flat_map further_item (map member_text (first ++ others)) ≡ flat_map further_item (map member_text first) ++ flat_map further_item (map member_text others)
+further-append first others = ap (flat_map further_item) (map-append member_text first others) ∙ flat_map-append further_item (map member_text first) (map member_text others)
+
+-- members, a member, and more members
+pub further-change : (first : List Member) (member : Member) (second last : List Member)
+    → flat_map further_item (map member_text (first ++ member ∷ (second ++ last)))
+    ≡ flat_map further_item (map member_text first) ++ (further_item (member_text member) ++ (flat_map further_item (map member_text second) ++ flat_map further_item (map member_text last)))
+further-change first member second last =
+    further-append first (member ∷ (second ++ last))
+    ∙ ap (λ m. flat_map further_item (map member_text first) ++ (further_item (member_text member) ++ m)) (further-append second last)
+
+-- an object of a number, and of further members in four parts
+pub changed-pieces : (out one two three four five all name number first member second last further end : List ℕ) → further ≡ first ++ (member ++ (second ++ last))
+    → one ≡ out ++ (name ++ number) → two ≡ one ++ first → three ≡ two ++ member → four ≡ three ++ second → five ≡ four ++ last → all ≡ five ++ end
+    → all ≡ out ++ (name ++ ((number ++ further) ++ end))
+changed-pieces out one two three four five all name number first member second last further end e p q r s t u =
+    u ∙ ap (λ o. o ++ end) (t ∙ ap (λ o. o ++ last) (s ∙ ap (λ o. o ++ second) (r ∙ ap (λ o. o ++ member) (q ∙ ap (λ o. o ++ first) p))))
+    ∙ whole
+    ∙ ap (λ f. out ++ (name ++ ((number ++ f) ++ end))) (sym e)
+  where
+    whole : (((((out ++ (name ++ number)) ++ first) ++ member) ++ second) ++ last) ++ end ≡ out ++ (name ++ ((number ++ (first ++ (member ++ (second ++ last)))) ++ end))
+    whole = simp append_assoc
 
 -- members: a number, a value, and two numbers
 pub declared-pieces : (out one label_2 two three all name_1 number_1 name_2 value_2 name_3 number_3 name_4 number_4 : List ℕ)
@@ -93,6 +110,22 @@ three-values out first second label third all name_1 value_1 name_2 value_2 name
     t ∙ ap (λ o. o ++ last) (s ∙ ap (λ o. o ++ value_3) (r ∙ ap (λ o. o ++ name_3) (q ∙ ap (λ o. o ++ (name_2 ++ value_2)) p)))
     ∙ simp append_assoc
 
+-- an object of a row, by its table and its key, and of two values
+pub row-values-object : (out one label_3 three label_4 four all name_1 table name_2 key name_3 value_3 name_4 value_4 end : List ℕ)
+    → one ≡ out ++ (name_1 ++ (table ++ (name_2 ++ key))) → label_3 ≡ one ++ name_3 → three ≡ label_3 ++ value_3 → label_4 ≡ three ++ name_4 → four ≡ label_4 ++ value_4
+    → all ≡ four ++ end → all ≡ out ++ (name_1 ++ ((table ++ (name_2 ++ (key ++ (name_3 ++ (value_3 ++ (name_4 ++ (value_4 ++ []))))))) ++ end))
+row-values-object out one label_3 three label_4 four all name_1 table name_2 key name_3 value_3 name_4 value_4 end p q r s t u =
+    u ∙ ap (λ o. o ++ end) (t ∙ ap (λ o. o ++ value_4) (s ∙ ap (λ o. o ++ name_4) (r ∙ ap (λ o. o ++ value_3) (q ∙ ap (λ o. o ++ name_3) p))))
+    ∙ simp (append_assoc, append-nil)
+
+-- three members, each of which is a label and a value
+pub three-labelled : (out label_1 one label_2 two label_3 all name_1 value_1 name_2 value_2 name_3 value_3 : List ℕ)
+    → label_1 ≡ out ++ name_1 → one ≡ label_1 ++ value_1 → label_2 ≡ one ++ name_2 → two ≡ label_2 ++ value_2 → label_3 ≡ two ++ name_3 → all ≡ label_3 ++ value_3
+    → all ≡ out ++ (name_1 ++ (value_1 ++ (name_2 ++ (value_2 ++ (name_3 ++ (value_3 ++ []))))))
+three-labelled out label_1 one label_2 two label_3 all name_1 value_1 name_2 value_2 name_3 value_3 p q r s t u =
+    u ∙ ap (λ o. o ++ value_3) (t ∙ ap (λ o. o ++ name_3) (s ∙ ap (λ o. o ++ value_2) (r ∙ ap (λ o. o ++ name_2) (q ∙ ap (λ o. o ++ value_1) p))))
+    ∙ simp (append_assoc, append-nil)
+
 -- the line of a call: its number, further members, and the end
 pub call-pieces : (out first second third all label number comma members further close feed : List ℕ) → further ≡ comma ++ members → first ≡ out ++ (label ++ number)
     → second ≡ first ++ comma → third ≡ second ++ members → all ≡ third ++ (close ++ feed) → all ≡ out ++ (label ++ (((number ++ further) ++ close) ++ feed))
@@ -131,3 +164,9 @@ pub number-members-object : (out first second third all label number comma membe
     → third ≡ second ++ members → all ≡ third ++ end → all ≡ out ++ (label ++ ((number ++ (comma ++ members)) ++ end))
 number-members-object out first second third all label number comma members end p q r s =
     s ∙ ap (λ o. o ++ end) (r ∙ ap (λ o. o ++ members) (q ∙ ap (λ o. o ++ comma) p)) ∙ simp append_assoc
+
+-- two numbers, and more members
+pub trial-pieces : (out one all name_1 number_1 name_2 number_2 rest : List ℕ)
+    → one ≡ out ++ (name_1 ++ (number_1 ++ (name_2 ++ number_2))) → all ≡ one ++ rest
+    → all ≡ out ++ (name_1 ++ (number_1 ++ (name_2 ++ (number_2 ++ rest))))
+trial-pieces out one all name_1 number_1 name_2 number_2 rest p q = q ∙ ap (λ o. o ++ rest) p ∙ simp append_assoc

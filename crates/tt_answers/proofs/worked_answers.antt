@@ -1,6 +1,7 @@
 mod Writing
 mod Repairing
 mod Explaining
+mod Changing
 mod Telling
 mod Refusing
 mod Forgetting

@@ -4,6 +4,7 @@ use Rattle.std.specs.List.{flat_map}
 use Rattle.tt_requests.specs.Numbers.{Numbering}
 use Rattle.tt_values.specs.declared.row.Row.{Row}
 use Rattle.tt_values.specs.declared.action.Action.{Action}
+use Rattle.tt_values.specs.declared.statement.Select.{Select}
 use Rattle.tt_values.specs.declared.reply.Reply.{Reply}
 use Rattle.tt_values.specs.declared.reply.Reply.TheVariants as replies
 use Rattle.tt_values.specs.Tables.{Tables}
@@ -11,24 +12,29 @@ use Rattle.tt_grammar.specs.Version.{newest_session_version}
 use Rattle.tt_generations.specs.declared.progress.Progress.{Progress}
 use Rattle.tt_records.specs.declared.record.What.{What}
 use Rattle.tt_records.specs.declared.record.What.TheVariants as whats
+use Rattle.tt_records.specs.declared.changed.Changed.{Changed}
 use Rattle.tt_records.specs.declared.changed.After.{After}
 use Rattle.tt_records.specs.declared.changed.After.TheVariants as afters
 use Rattle.tt_grammar.specs.Quoting.{quoted}
 use Rattle.tt_grammar.specs.Printing.{row_text}
 use Rattle.tt_grammar.specs.JsonText.{Member, number_member, array_text, object_text, flag_text, text_or_null}
-use Rattle.tt_grammar.specs.WriteText.{named_action_members, action_members_or_null, tables_text}
+use Rattle.tt_grammar.specs.WriteText.{table_name, equals_member, named_action_members, action_members, action_members_or_null, tables_text}
 use Rattle.tt_answers.specs.declared.answer.RepairStatus.{RepairStatus}
 use Rattle.tt_answers.specs.declared.answer.Status.{Status}
 use Rattle.tt_answers.specs.declared.answer.RowPage.{RowPage}
 use Rattle.tt_answers.specs.declared.answer.SlotEntry.{SlotEntry}
 use Rattle.tt_answers.specs.declared.answer.Place.{Place}
 use Rattle.tt_answers.specs.declared.answer.Place.TheVariants as places
+use Rattle.tt_answers.specs.declared.answer.AskedFor.{AskedFor}
+use Rattle.tt_answers.specs.declared.answer.AskedFor.TheVariants as asked
 use Rattle.tt_answers.specs.declared.answer.ChangeEntry.{ChangeEntry}
 use Rattle.tt_answers.specs.declared.answer.CauseEntry.{CauseEntry}
+use Rattle.tt_answers.specs.declared.answer.DiffEntry.{DiffEntry}
 use Rattle.tt_answers.specs.declared.answer.Answer.{Answer}
 use Rattle.tt_answers.specs.declared.answer.Answer.TheVariants as answers
 use Rattle.tt_answers.specs.ToldText.{time_member, generation_member}
 use Rattle.tt_answers.specs.CauseText.{cause_text}
+use Rattle.tt_answers.specs.DiffText.{diff_text}
 use Rattle.tt_answers.specs.RefusalText.{out_of_memory, refusal_members, fault_members}
 
 -- a reply as items of an array: rows are one item each, and any other reply is one item
@@ -118,18 +124,36 @@ abbrev pub after_text : After → List ℕ
 after_text afters.Cancelled = quoted (codes "cancelled")
 after_text (afters.Replies replies) = replies_text replies
 
--- a changed reply: its call, its slot or time, and the replies before and after
-abbrev pub change_members : Numbering → ChangeEntry → List Member
-change_members numbering entry =
+-- the replies before and after
+abbrev pub reply_change_members : Changed → List Member
+reply_change_members change = (codes "before", replies_text change.before) ∷ (codes "after", after_text change.after) ∷ []
+
+-- the worker that made a call, if that is told
+abbrev pub worker_members : Option ℕ → List Member
+worker_members None = []
+worker_members (Some worker) = number_member (codes "worker") worker ∷ []
+
+-- a select: its table and its conditions
+abbrev pub select_members : Tables → Select → List Member
+select_members tables select = (codes "select", quoted (table_name tables select.table)) ∷ equals_member tables select.table select.equals ∷ []
+
+-- what a call asked for, if that is told
+abbrev pub asked_for_members : Tables → Option AskedFor → List Member
+asked_for_members tables None = []
+asked_for_members tables (Some (asked.Action action)) = action_members tables action
+asked_for_members tables (Some (asked.Select select)) = select_members tables select
+
+-- a changed reply: its call, who made it, its slot or time, the replies before and after, and what it asked for
+abbrev pub change_members : Tables → Numbering → ChangeEntry → List Member
+change_members tables numbering entry =
     number_member (codes "call") entry.change.call
-    ∷ place_member numbering entry.place
-    ∷ (codes "before", replies_text entry.change.before)
-    ∷ (codes "after", after_text entry.change.after)
-    ∷ []
+    ∷ (worker_members entry.worker
+    ++ place_member numbering entry.place
+    ∷ (reply_change_members entry.change ++ asked_for_members tables entry.asked))
 
 -- a changed reply, as an object
-abbrev pub change_text : Numbering → ChangeEntry → List ℕ
-change_text numbering entry = object_text (change_members numbering entry)
+abbrev pub change_text : Tables → Numbering → ChangeEntry → List ℕ
+change_text tables numbering entry = object_text (change_members tables numbering entry)
 
 -- the newest version of sessions, the tables, how many closed generations are kept, and how many records
 abbrev pub declared_members : Tables → ℕ → ℕ → List Member
@@ -157,15 +181,33 @@ abbrev pub slots_members : Tables → Numbering → ℕ → List SlotEntry → L
 slots_members tables numbering time entries =
     time_member numbering (codes "time") time ∷ (codes "slots", array_text (map (slot_text tables numbering) entries)) ∷ []
 
--- the call of the first record that is kept, and changed replies
-abbrev pub changes_members : Numbering → ℕ → List ChangeEntry → List Member
-changes_members numbering first entries =
-    number_member (codes "from") first ∷ (codes "changed", array_text (map (change_text numbering) entries)) ∷ []
+-- the call of the first record that is kept, changed replies, and whether more follow, if that is told
+abbrev pub changes_members : Tables → Numbering → ℕ → List ChangeEntry → Option Bool → List Member
+changes_members tables numbering first entries more =
+    number_member (codes "from") first ∷ (codes "changed", array_text (map (change_text tables numbering) entries)) ∷ more_members more
 
 -- how many slots a repair has done, those of them that it re-executed, and whether more follow, if that is told
 abbrev pub causes_members : Tables → Numbering → ℕ → List CauseEntry → Option Bool → List Member
 causes_members tables numbering done entries more =
     time_member numbering (codes "done") done ∷ (codes "redone", array_text (map (cause_text tables numbering) entries)) ∷ more_members more
+
+-- how many slots a repair has done, the rows that differ between the generations then, and whether more follow, if that is told
+abbrev pub differences_members : Tables → Numbering → ℕ → List DiffEntry → Option Bool → List Member
+differences_members tables numbering done entries more =
+    time_member numbering (codes "done") done ∷ (codes "diff", array_text (map (diff_text tables) entries)) ∷ more_members more
+
+-- what a repair would re-execute, the replies that it would change, and the rows that would differ
+abbrev pub outcome_members : Tables → Numbering → List CauseEntry → List ChangeEntry → List DiffEntry → List Member
+outcome_members tables numbering redone changed diff =
+    (codes "redone", array_text (map (cause_text tables numbering) redone))
+    ∷ (codes "changed", array_text (map (change_text tables numbering) changed))
+    ∷ (codes "diff", array_text (map (diff_text tables) diff))
+    ∷ []
+
+-- how many slots there are, how many of them a repair would re-execute, and what it would come to
+abbrev pub trial_members : Tables → Numbering → ℕ → ℕ → List CauseEntry → List ChangeEntry → List DiffEntry → List Member
+trial_members tables numbering slots rerun redone changed diff =
+    time_member numbering (codes "slots") slots ∷ number_member (codes "rerun") rerun ∷ outcome_members tables numbering redone changed diff
 
 -- the members of an answer, without its call. The tables are those of the database, whose numbers are told by the numbering
 abbrev pub answer_members : Tables → Numbering → Answer → List Member
@@ -176,8 +218,10 @@ answer_members tables numbering (answers.Previewed done page) = time_member numb
 answer_members tables numbering (answers.Repairing progress) = progress_members numbering progress
 answer_members tables numbering (answers.Finished generation slots rerun) = finished_members numbering generation slots rerun
 answer_members tables numbering (answers.Slots time entries) = slots_members tables numbering time entries
-answer_members tables numbering (answers.Changes first entries) = changes_members numbering first entries
+answer_members tables numbering (answers.Changes first entries more) = changes_members tables numbering first entries more
 answer_members tables numbering (answers.Causes done entries more) = causes_members tables numbering done entries more
+answer_members tables numbering (answers.Differences done entries more) = differences_members tables numbering done entries more
+answer_members tables numbering (answers.Trial slots rerun redone changed diff) = trial_members tables numbering slots rerun redone changed diff
 answer_members tables numbering (answers.Declared keep records) = declared_members tables keep records
 answer_members tables numbering (answers.Faulty fault) = fault_members fault
 answer_members tables numbering (answers.Refused refusal) = refusal_members numbering refusal

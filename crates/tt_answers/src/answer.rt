@@ -3,11 +3,11 @@ ghost use Rattle.std.specs.Prelude.{◌≡◌, IfOk};
 
 use std::alloc::AllocError;
 use tt_db::{DbError, Progress, ReadError, Slot};
-use tt_generations::Cause;
+use tt_generations::{Cause, RowChange};
 use tt_grammar::DocFault;
 use tt_records::{Changed, What};
 use tt_requests::ToldTime;
-use tt_values::{Action, Items, Reply, Row, RowId, Value};
+use tt_values::{Action, Items, Reply, Row, RowId, Select, Value};
 
 /// Why a request is refused.
 #[derive(Clone, Copy, Debug, PartialEq, Eq)]
@@ -88,8 +88,19 @@ pub enum Place {
 /// What is told of a changed reply.
 #[derive(Debug, PartialEq, Drop)]
 pub struct ChangeEntry {
+    /// The worker that made the call, if that is told.
+    pub worker: Option<u32>,
     pub place: Place,
     pub change: Changed,
+    /// What the call asked for, if that is told.
+    pub asked: Option<AskedFor>,
+}
+
+/// What a call asked for whose answer can change.
+#[derive(Debug, PartialEq, Drop)]
+pub enum AskedFor {
+    Action(Action),
+    Select(Select),
 }
 
 /// Why a slot was re-executed. All but the first name what got dirty, and the slot that it got
@@ -128,6 +139,14 @@ pub struct CauseEntry {
     /// The number of the slot.
     pub slot: u64,
     pub cause: SlotCause,
+}
+
+/// What is told of a row that differs between the generations.
+#[derive(Debug, PartialEq, Drop)]
+pub struct DiffEntry {
+    /// The position of its table, from 0.
+    pub table: u16,
+    pub change: RowChange,
 }
 
 /// An answer. What it holds is shared with the database, and not copied. Its slots, times and
@@ -169,6 +188,8 @@ pub enum Answer {
     Changes {
         from: u64,
         changes: Items<ChangeEntry>,
+        /// Whether more follow, if a page was asked for.
+        more: Option<bool>,
     },
     /// How many slots the repair has done, and those of them that it re-executed.
     Causes {
@@ -176,6 +197,26 @@ pub enum Answer {
         redone: Items<CauseEntry>,
         /// Whether more follow, if a page was asked for.
         more: Option<bool>,
+    },
+    /// How many slots the repair has done, and the rows that differ between the generations then.
+    Differences {
+        done: u64,
+        diff: Items<DiffEntry>,
+        /// Whether more follow, if a page was asked for.
+        more: Option<bool>,
+    },
+    /// What a repair would come to, once it had done all slots.
+    Trial {
+        /// How many slots there are.
+        slots: u64,
+        /// How many of them it would re-execute.
+        rerun: u64,
+        /// Those that it would re-execute.
+        redone: Items<CauseEntry>,
+        /// The replies that it would change.
+        changed: Items<ChangeEntry>,
+        /// The rows that would differ between the generations.
+        diff: Items<DiffEntry>,
     },
     /// The tables of the database, how many closed generations it keeps, and how many records are
     /// kept.

@@ -1,13 +1,17 @@
 //! The lines of answers.
-ghost use Rattle.std.specs.Prelude.{◌≡◌, ◌++◌, map, OnOk};
+ghost use Rattle.std.specs.Prelude.{◌≡◌, ◌++◌, map, codes, OnOk};
 ghost use Rattle.std.specs.List.{flat_map};
 ghost use Rattle.std.specs.Option.{option_map};
 ghost use Rattle.std.specs.Fmt.{decimal};
+ghost use Rattle.tt_requests.specs.Numbers.{told_time};
 ghost use Rattle.tt_grammar.specs.JsonText.{further_item, member_text, members_text, text_or_null};
-ghost use Rattle.tt_answers.specs.AnswerText.{progress_members, repair_text, horizon_members, status_members, more_members, page_members, written_members, finished_members, slots_members, changes_members, causes_members, declared_members, answer_members, opening_text, call_text};
+ghost use Rattle.tt_answers.specs.AnswerText.{progress_members, repair_text, horizon_members, status_members, more_members, page_members, written_members, finished_members, slots_members, changes_members, causes_members, differences_members, outcome_members, trial_members, declared_members, answer_members, opening_text, call_text};
 
-use crate::answer::{Answer, CauseEntry, ChangeEntry, RepairStatus, RowPage, SlotEntry, Status};
+use crate::answer::{
+    Answer, CauseEntry, ChangeEntry, DiffEntry, RepairStatus, RowPage, SlotEntry, Status,
+};
 use crate::cause_text::push_causes;
+use crate::diff_text::push_diff;
 use crate::fault_text::{push_fault, push_out_of_memory};
 use crate::refusal_text::push_refusal;
 use crate::reply_text::{push_replies, push_rows};
@@ -86,11 +90,33 @@ fn push_answer(
         Answer::Slots { time, slots } => {
             push_slots_at(out, catalog, numbering, *time, slots.as_slice())
         }
-        Answer::Changes { from, changes } => {
-            push_changes_from(out, numbering, *from, changes.as_slice())
-        }
+        Answer::Changes {
+            from,
+            changes,
+            more,
+        } => push_changes_from(out, catalog, numbering, *from, changes.as_slice(), *more),
         Answer::Causes { done, redone, more } => {
             push_causes_of(out, catalog, numbering, *done, redone.as_slice(), *more)
+        }
+        Answer::Differences { done, diff, more } => {
+            push_differences_of(out, catalog, numbering, *done, diff.as_slice(), *more)
+        }
+        Answer::Trial {
+            slots,
+            rerun,
+            redone,
+            changed,
+            diff,
+        } => {
+            push_trial_counts(out, numbering, *slots, *rerun)?;
+            push_outcome(
+                out,
+                catalog,
+                numbering,
+                redone.as_slice(),
+                changed.as_slice(),
+                diff.as_slice(),
+            )
         }
         Answer::Declared { keep, records } => push_declared(out, catalog, *keep, *records),
         Answer::Faulty(fault) => push_fault(out, fault),
@@ -255,16 +281,19 @@ fn push_slots_at(
 /// Pushes the call of the first record that is kept, and changed replies.
 fn push_changes_from(
     out: &mut Vec<u8>,
+    catalog: &Catalog,
     numbering: Numbering,
     from: u64,
     changes: &[ChangeEntry],
+    more: Option<bool>,
 ) -> Result<(), AllocError>
     ensures { OnOk result (out.new.items ≡ out.old.items
-        ++ members_text (changes_members numbering from changes.now)) }
+        ++ members_text (changes_members catalog.now numbering from changes.now more)) }
 {
     push_labelled(out, b"\"from\":", from)?;
     out.extend_from_slice(b",\"changed\":")?;
-    push_changes(out, numbering, changes)?;
+    push_changes(out, catalog, numbering, changes)?;
+    push_more(out, more)?;
     Ok(())
 }
 
@@ -284,6 +313,63 @@ fn push_causes_of(
     out.extend_from_slice(b",\"redone\":")?;
     push_causes(out, catalog, numbering, redone)?;
     push_more(out, more)?;
+    Ok(())
+}
+
+/// Pushes how many slots a repair has done, and the rows that differ between the generations then.
+fn push_differences_of(
+    out: &mut Vec<u8>,
+    catalog: &Catalog,
+    numbering: Numbering,
+    done: u64,
+    diff: &[DiffEntry],
+    more: Option<bool>,
+) -> Result<(), AllocError>
+    ensures { OnOk result (out.new.items ≡ out.old.items
+        ++ members_text (differences_members catalog.now numbering done diff.now more)) }
+{
+    push_told_time(out, b"\"done\":", numbering.told_time(done))?;
+    out.extend_from_slice(b",\"diff\":")?;
+    push_diff(out, catalog, diff)?;
+    push_more(out, more)?;
+    Ok(())
+}
+
+/// Pushes how many slots there are, and how many of them a repair would re-execute.
+fn push_trial_counts(
+    out: &mut Vec<u8>,
+    numbering: Numbering,
+    slots: u64,
+    rerun: u64,
+) -> Result<(), AllocError>
+    ensures { OnOk result (out.new.items ≡ out.old.items
+        ++ (codes "\"slots\":" ++ (decimal (told_time numbering slots).number
+        ++ (codes ",\"rerun\":" ++ decimal rerun)))) }
+{
+    push_told_time(out, b"\"slots\":", numbering.told_time(slots))?;
+    push_labelled(out, b",\"rerun\":", rerun)?;
+    Ok(())
+}
+
+/// Pushes what a repair would re-execute, the replies that it would change, and the rows that would
+/// differ, each behind a comma.
+fn push_outcome(
+    out: &mut Vec<u8>,
+    catalog: &Catalog,
+    numbering: Numbering,
+    redone: &[CauseEntry],
+    changed: &[ChangeEntry],
+    diff: &[DiffEntry],
+) -> Result<(), AllocError>
+    ensures { OnOk result (out.new.items ≡ out.old.items ++ flat_map further_item (map member_text
+        (outcome_members catalog.now numbering redone.now changed.now diff.now))) }
+{
+    out.extend_from_slice(b",\"redone\":")?;
+    push_causes(out, catalog, numbering, redone)?;
+    out.extend_from_slice(b",\"changed\":")?;
+    push_changes(out, catalog, numbering, changed)?;
+    out.extend_from_slice(b",\"diff\":")?;
+    push_diff(out, catalog, diff)?;
     Ok(())
 }
 

@@ -10,7 +10,7 @@ ghost use Rattle.tt_answers.specs.CauseText.{cause_members, cause_text};
 use crate::answer::{CauseEntry, SlotCause};
 use crate::told_text::push_told_time;
 use std::alloc::AllocError;
-use tt_grammar::{push_int, push_named, push_value};
+use tt_grammar::{column_name, push_int, push_named, push_value, table_name};
 use tt_requests::{Numbering, ToldTime};
 use tt_values::{Catalog, RowId, Value};
 
@@ -100,8 +100,8 @@ fn push_cause(
     }
 }
 
-/// Pushes that a slot touched or named a row, behind its label: the row, by its table and its key.
-fn push_row_named(
+/// Pushes a row by its table, behind its label, and its key.
+pub(crate) fn push_row_named(
     out: &mut Vec<u8>,
     label: &[u8],
     catalog: &Catalog,
@@ -156,10 +156,7 @@ fn push_table_name(
     ensures { OnOk result (out.new.items
         ≡ out.old.items ++ (label.now ++ quoted (table_name catalog.now table))) }
 {
-    match catalog.name(table) {
-        Some(name) => push_named(out, label, name.as_bytes()),
-        None => push_named(out, label, b""),
-    }
+    push_named(out, label, table_name(catalog, table).as_bytes())
 }
 
 /// Pushes the name of a column in quotes behind its label.
@@ -174,17 +171,4 @@ fn push_column_name(
         ≡ out.old.items ++ (label.now ++ quoted (column_name catalog.now table column))) }
 {
     push_named(out, label, column_name(catalog, table, column).as_bytes())
-}
-
-/// The name of the column at a position of a table, or an empty one where there is no column.
-fn column_name(catalog: &Catalog, table: u16, column: u16) -> &str
-    ensures { result.now ≡ column_name catalog.now table column }
-{
-    let Some(def) = catalog.table(table) else {
-        return "";
-    };
-    match def.columns.get(usize::from(column)) {
-        Some(column) => column.name.as_str(),
-        None => "",
-    }
 }

@@ -4,6 +4,7 @@
 mod answer;
 mod answer_text;
 mod cause_text;
+mod diff_text;
 mod fault_text;
 mod log_text;
 mod refusal_text;
@@ -12,8 +13,8 @@ mod slot_text;
 mod told_text;
 
 pub use answer::{
-    Answer, CauseEntry, ChangeEntry, Place, Refusal, RepairStatus, RowPage, SlotCause, SlotEntry,
-    Status,
+    Answer, AskedFor, CauseEntry, ChangeEntry, DiffEntry, Place, Refusal, RepairStatus, RowPage,
+    SlotCause, SlotEntry, Status,
 };
 pub use answer_text::{push_call, push_opening};
 pub use log_text::{push_ground_line, push_log_opening, push_slot_line};

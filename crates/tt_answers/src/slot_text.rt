@@ -2,16 +2,19 @@
 ghost use Rattle.std.specs.Prelude.{◌≡◌, ◌++◌, map, OnOk};
 ghost use Rattle.std.specs.List.{flat_map};
 ghost use Rattle.tt_grammar.specs.JsonText.{further_item, array_text, member_text};
-ghost use Rattle.tt_answers.specs.AnswerText.{asked_members, slot_text, place_member, after_text, change_text};
+ghost use Rattle.tt_answers.specs.AnswerText.{asked_members, slot_text, place_member, after_text, worker_members, reply_change_members, select_members, asked_for_members, change_text};
 
-use crate::answer::{ChangeEntry, Place, SlotEntry};
+use crate::answer::{AskedFor, ChangeEntry, Place, SlotEntry};
 use crate::reply_text::{push_replies, push_replies_or_null};
 use crate::told_text::push_told_time;
 use std::alloc::AllocError;
-use tt_grammar::{push_action_or_null, push_labelled, push_named_action};
-use tt_records::After;
+use tt_grammar::{
+    push_action, push_action_or_null, push_equals, push_labelled, push_named, push_named_action,
+    table_name,
+};
+use tt_records::{After, Changed};
 use tt_requests::Numbering;
-use tt_values::{Action, Catalog};
+use tt_values::{Action, Catalog, Select};
 
 /// Pushes slots as an array.
 pub(crate) fn push_slots(
@@ -90,18 +93,19 @@ fn push_asked(
 /// Pushes changed replies as an array.
 pub(crate) fn push_changes(
     out: &mut Vec<u8>,
+    catalog: &Catalog,
     numbering: Numbering,
     changes: &[ChangeEntry],
 ) -> Result<(), AllocError>
     ensures { OnOk result (out.new.items
-        ≡ out.old.items ++ array_text (map (change_text numbering) changes.now)) }
+        ≡ out.old.items ++ array_text (map (change_text catalog.now numbering) changes.now)) }
 {
     let [first, further @ ..] = changes else {
         return out.extend_from_slice(b"[]");
     };
     out.push(b'[')?;
-    push_change(out, numbering, first)?;
-    push_further_changes(out, numbering, further)?;
+    push_change(out, catalog, numbering, first)?;
+    push_further_changes(out, catalog, numbering, further)?;
     out.push(b']')?;
     Ok(())
 }
@@ -109,15 +113,16 @@ pub(crate) fn push_changes(
 /// Pushes further changed replies, each behind a comma.
 fn push_further_changes(
     out: &mut Vec<u8>,
+    catalog: &Catalog,
     numbering: Numbering,
     changes: &[ChangeEntry],
 ) -> Result<(), AllocError>
     ensures { OnOk result (out.new.items ≡ out.old.items
-        ++ flat_map further_item (map (change_text numbering) changes.now)) }
+        ++ flat_map further_item (map (change_text catalog.now numbering) changes.now)) }
 {
     for change in changes {
         out.push(b',')?;
-        push_change(out, numbering, change)?;
+        push_change(out, catalog, numbering, change)?;
     }
     Ok(())
 }
@@ -125,18 +130,76 @@ fn push_further_changes(
 /// Pushes a changed reply.
 fn push_change(
     out: &mut Vec<u8>,
+    catalog: &Catalog,
     numbering: Numbering,
     entry: &ChangeEntry,
 ) -> Result<(), AllocError>
-    ensures { OnOk result (out.new.items ≡ out.old.items ++ change_text numbering entry.now) }
+    ensures { OnOk result (out.new.items
+        ≡ out.old.items ++ change_text catalog.now numbering entry.now) }
 {
     push_labelled(out, b"{\"call\":", entry.change.call)?;
+    push_worker(out, entry.worker)?;
     push_place(out, numbering, entry.place)?;
-    out.extend_from_slice(b",\"before\":")?;
-    push_replies(out, entry.change.before.as_slice())?;
-    out.extend_from_slice(b",\"after\":")?;
-    push_after(out, &entry.change.after)?;
+    push_reply_change(out, &entry.change)?;
+    push_asked_for(out, catalog, &entry.asked)?;
     out.push(b'}')?;
+    Ok(())
+}
+
+/// Pushes the worker of a call, if that is told.
+fn push_worker(out: &mut Vec<u8>, worker: Option<u32>) -> Result<(), AllocError>
+    ensures { OnOk result (out.new.items
+        ≡ out.old.items ++ flat_map further_item (map member_text (worker_members worker))) }
+{
+    if let Some(worker) = worker {
+        push_labelled(out, b",\"worker\":", u64::from(worker))?;
+    }
+    Ok(())
+}
+
+/// Pushes the replies before and after, behind a comma.
+fn push_reply_change(out: &mut Vec<u8>, change: &Changed) -> Result<(), AllocError>
+    ensures { OnOk result (out.new.items ≡ out.old.items
+        ++ flat_map further_item (map member_text (reply_change_members change.now))) }
+{
+    out.extend_from_slice(b",\"before\":")?;
+    push_replies(out, change.before.as_slice())?;
+    out.extend_from_slice(b",\"after\":")?;
+    push_after(out, &change.after)?;
+    Ok(())
+}
+
+/// Pushes what a call asked for, if that is told.
+fn push_asked_for(
+    out: &mut Vec<u8>,
+    catalog: &Catalog,
+    asked: &Option<AskedFor>,
+) -> Result<(), AllocError>
+    ensures { OnOk result (out.new.items ≡ out.old.items
+        ++ flat_map further_item (map member_text (asked_for_members catalog.now asked.now))) }
+{
+    match asked {
+        None => Ok(()),
+        Some(AskedFor::Action(action)) => {
+            out.push(b',')?;
+            push_action(out, catalog, action)
+        }
+        Some(AskedFor::Select(select)) => push_select(out, catalog, select),
+    }
+}
+
+/// Pushes the table and the conditions of a select, each behind a comma.
+fn push_select(out: &mut Vec<u8>, catalog: &Catalog, select: &Select) -> Result<(), AllocError>
+    ensures { OnOk result (out.new.items ≡ out.old.items
+        ++ flat_map further_item (map member_text (select_members catalog.now select.now))) }
+{
+    push_named(
+        out,
+        b",\"select\":",
+        table_name(catalog, select.table).as_bytes(),
+    )?;
+    out.extend_from_slice(b",\"where\":")?;
+    push_equals(out, catalog, select.table, select.equals.as_slice())?;
     Ok(())
 }
 

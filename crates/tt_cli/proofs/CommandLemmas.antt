@@ -17,10 +17,10 @@ use Rattle.tt_cli.specs.declared.command_line.Cli.{Cli}
 use Rattle.clap.specs.Kinds.{HasKind, IsAmong, Kinds, or_else}
 use Rattle.clap.specs.declared.error.Error.{Error}
 use Rattle.clap.specs.declared.error.kind.ErrorKind.TheVariants.{MissingRequiredArgument}
-use Rattle.tt_cli.specs.CommandLine.{Asks, IsBatchOf, IsClosedOf, IsCommandOf, IsNumberOr, IsRoundsOf, IsSignedOr, IsWhyOf, command_line, fault_of_subcommand, fault_of_words, given_text, lacks_log}
+use Rattle.tt_cli.specs.CommandLine.{Asks, IsBatchOf, IsClosedOf, IsCommandOf, IsNumberOr, IsRoundsOf, IsSignedOr, IsWhyOf, IsDiffOf, IsDryOf, command_line, fault_of_subcommand, fault_of_words, given_text, lacks_log}
 use Rattle.tt_cli.proofs.NumberLemmas.{ReadsBatch, ReadsNumber, ReadsRounds, reads_batch, reads_rounds}
-use Rattle.tt_cli.proofs.FlagLemmas.{reads_flag}
-use Rattle.tt_cli.proofs.SubcommandLemmas.{FitPath, HasCommand, HasLog, HasOptions, HasSession, batch_of, closed_of, rounds_of, takes_one, why_of}
+use Rattle.tt_cli.proofs.FlagLemmas.{reads_flag, reads_flag_or_none}
+use Rattle.tt_cli.proofs.SubcommandLemmas.{FitPath, HasCommand, HasLog, HasOptions, HasSession, batch_of, closed_of, diff_of, dry_of, rounds_of, takes_one, why_of}
 use Rattle.tt_cli.proofs.RowLemmas.{first_is_given, given_is_some}
 
 is_simple_line : is_simple_and_free command_line ≡ true
@@ -242,6 +242,23 @@ module _ (words : List Text) (m : ArgMatches) (enters : Enters words m) where
         let one = one_is inner found (codes "why") in
         let is = reads_flag (codes "why") enters.1 read (why_of enters.0 enters.1 has) (λ e. when_true (one ∙ e)) (λ e. when_false (one ∙ e)) in
         subst (λ (sub : Option (Text × List Row)). IsSomeAnd sub (λ s. read ≡ is_given (codes "why") s.1)) (sym enters.2) is
+
+    pub diff_is : (read : Bool) → (one_text (found_of inner) (codes "diff") ≡ Some (codes "true") → read ≡ true)
+        → (one_text (found_of inner) (codes "diff") ≡ Some (codes "false") → read ≡ false) → IsDiffOf words read
+    unfolding IsDiffOf
+    diff_is read when_true when_false =
+        let one = one_is inner found (codes "diff") in
+        let is = reads_flag (codes "diff") enters.1 read (diff_of enters.0 enters.1 has) (λ e. when_true (one ∙ e)) (λ e. when_false (one ∙ e)) in
+        subst (λ (sub : Option (Text × List Row)). IsSomeAnd sub (λ s. read ≡ is_given (codes "diff") s.1)) (sym enters.2) is
+
+    pub dry_is : (read : Bool) → (one_text (found_of inner) (codes "dry") ≡ None → read ≡ false)
+        → (one_text (found_of inner) (codes "dry") ≡ Some (codes "true") → read ≡ true)
+        → (one_text (found_of inner) (codes "dry") ≡ Some (codes "false") → read ≡ false) → IsDryOf words read
+    unfolding IsDryOf
+    dry_is read none when_true when_false =
+        let one = one_is inner found (codes "dry") in
+        let is = reads_flag_or_none (codes "dry") enters.1 read (dry_of enters.0 enters.1 has) (λ e. none (one ∙ e)) (λ e. when_true (one ∙ e)) (λ e. when_false (one ∙ e)) in
+        subst (λ (sub : Option (Text × List Row)). IsSomeAnd sub (λ s. read ≡ is_given (codes "dry") s.1)) (sym enters.2) is
 
   -- the numbers that were read
   pub batch_is : (read : Option ℕ) (n : ℕ) → ReadsBatch enters.1 read → read ≡ Some n → IsBatchOf words n

@@ -1,9 +1,9 @@
 -- What `get_flag` reads of the row of an option without a value.
-use Rattle.std.proofs.Common.{◌≡◌, ◌∙◌, ap, Bool, List, Some, codes, false, inl, inr, refl, slice_get, sym, true}
+use Rattle.std.proofs.Common.{◌≡◌, ◌⊎◌, ◌∙◌, ap, Bool, List, None, Some, codes, false, inl, inr, refl, slice_get, sym, true}
 use Rattle.clap.specs.Takes.{is_given}
 use Rattle.clap.specs.Walk.{Row, Text, one_of}
 use Rattle.clap.specs.declared.builder.value_parser.Reading.TheVariants.{AsWritten}
-use Rattle.tt_cli.proofs.SubcommandLemmas.{IsTrueText}
+use Rattle.tt_cli.proofs.SubcommandLemmas.{HasFlag, HasNoRow, IsTrueText}
 use Rattle.tt_cli.proofs.RowLemmas.{HasRow, IsDefault, IsGiven}
 
 -- true exactly where the words give the flag
@@ -23,3 +23,14 @@ reads_flag id rows read has when_true when_false = elim has.2 [ inl g ↦ from_w
         let one : one_of id rows ≡ Some (codes "false") = rw (has.1, d.0, d.1) refl in
         let words : is_given id rows ≡ false = rw (has.1, d.2) refl in
         when_false one ∙ sym words
+
+-- the same of a flag that one subcommand doesn't take
+pub reads_flag_or_none : (id : Text) (rows : List Row) (read : Bool) → HasFlag id rows ⊎ HasNoRow id rows → (one_of id rows ≡ None → read ≡ false)
+    → (one_of id rows ≡ Some (codes "true") → read ≡ true) → (one_of id rows ≡ Some (codes "false") → read ≡ false) → read ≡ is_given id rows
+reads_flag_or_none id rows read has none when_true when_false = elim has [ inl row ↦ reads_flag id rows read row when_true when_false | inr no_row ↦ from_none no_row ]
+  where
+    from_none : HasNoRow id rows → read ≡ is_given id rows
+    from_none no_row =
+        let one : one_of id rows ≡ None = rw no_row refl in
+        let words : is_given id rows ≡ false = rw no_row refl in
+        none one ∙ sym words

@@ -18,7 +18,7 @@ use Rattle.clap.proofs.CallerReads.{signed_reads}
 use Rattle.clap.proofs.ValueTestLemmas.{accepts-Accepts}
 use Rattle.tt_cli.specs.CommandLine.{IsNumberOr, IsSignedOr, given_text}
 use Rattle.tt_cli.proofs.RowLemmas.{HasRow, IsDefault, IsGiven}
-use Rattle.tt_cli.proofs.SubcommandLemmas.{HasBatch, HasNoRounds, HasRounds, IsInRange}
+use Rattle.tt_cli.proofs.SubcommandLemmas.{HasBatch, HasNoRow, HasRounds, IsInRange}
 
 abbrev pub ReadsNumber : List ℕ → Result ℕ ParseIntError → Type 0
 ReadsNumber text r = ParsesUnsigned 32 10 text r × ExplainsUnsignedError 10 text r × HasUnsignedDigitsIfOk text r
@@ -120,7 +120,7 @@ abbrev pub ReadsRounds : List Row → ℕ → Type 0
 ReadsRounds rows n = (n ≤ 1000) × IsSignedOr 8 (given_text (codes "rounds") rows) n
 
 -- the number that is read of a row, or 8 where there is none
-pub reads_rounds : (rows : List Row) (read : Option ℕ) → HasRounds rows ⊎ HasNoRounds rows → (one_of (codes "rounds") rows ≡ None → read ≡ None)
+pub reads_rounds : (rows : List Row) (read : Option ℕ) → HasRounds rows ⊎ HasNoRow (codes "rounds") rows → (one_of (codes "rounds") rows ≡ None → read ≡ None)
     → ((text : Text) → one_of (codes "rounds") rows ≡ Some text → ReadsOne ReadsNumber text read) → ReadsRounds rows (unwrap_or read 8)
 reads_rounds rows read has none reads = elim has [ inl row ↦ from_row row | inr no_row ↦ from_none no_row ]
   where
@@ -129,7 +129,7 @@ reads_rounds rows read has none reads = elim has [ inl row ↦ from_row row | in
         let n = reads_in (codes "rounds") 0 1000 (codes "8") (IsSignedOr 8) (omega arith) signed_is (λ n number. number.1) refl refl rows read row reads in
         rw n.1 (n.3, n.4)
 
-    from_none : HasNoRounds rows → ReadsRounds rows (unwrap_or read 8)
+    from_none : HasNoRow (codes "rounds") rows → ReadsRounds rows (unwrap_or read 8)
     from_none no_row =
         let nothing : read ≡ None = none (rw no_row refl) in
         let text : given_text (codes "rounds") rows ≡ None = rw no_row refl in

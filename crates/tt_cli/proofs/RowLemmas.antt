@@ -136,6 +136,46 @@ module _ (id : Text) (how : Reading) (Passes : Text → Type 0) where
         go true any = has
         go false none = stays rows none has
 
+-- ---- one default after another
+
+-- the default of an argument: its name, how it is read, and its values
+abbrev pub Default : Type 0
+Default = Text × Reading × List Text
+
+abbrev pub after_default : Default → List Row → List Row
+after_default d rows = cond (has_row d.0 rows) rows (with_values d.0 d.1 DefaultValue d.2 rows)
+
+abbrev pub after_defaults : List Default → List Row → List Row
+after_defaults [] rows = rows
+after_defaults (d ∷ ds) rows = after_defaults ds (after_default d rows)
+
+-- the row of each default fits
+abbrev pub DefaultsFit : Text → Reading → (Text → Type 0) → List Default → Type 0
+DefaultsFit id how Passes ds = Each (λ d. Fits id how Passes (new_row d.0 d.1 DefaultValue d.2)) ds
+
+-- the defaults of other arguments keep the rows
+pub defaults_keep : (id : Text) (how : Reading) (Passes : Text → Type 0) (ds : List Default) → DefaultsFit id how Passes ds
+    → (rows : List Row) → AllFit id how Passes rows → AllFit id how Passes (after_defaults ds rows)
+defaults_keep id how Passes [] new rows p = p
+defaults_keep id how Passes (d ∷ ds) new rows p =
+    defaults_keep id how Passes ds new.1 (after_default d rows) (default_keeps id how Passes d.0 d.1 d.2 new.0 rows p)
+
+-- and leave the row of an argument
+defaults_stay : (id : Text) (how : Reading) (Passes : Text → Type 0) (usual : Text) (ds : List Default) (rows : List Row)
+    → HasRow id how Passes usual rows → HasRow id how Passes usual (after_defaults ds rows)
+defaults_stay id how Passes usual [] rows has = has
+defaults_stay id how Passes usual (d ∷ ds) rows has =
+    defaults_stay id how Passes usual ds (after_default d rows) (default_stays id how Passes usual d.0 d.1 d.2 rows has)
+
+-- after the defaults of all arguments there is a row of this one
+pub defaults_have : (id : Text) (how : Reading) (Passes : Text → Type 0) (usual : Text) → bytes_eq id id ≡ true → (before behind : List Default)
+    → DefaultsFit id how Passes before → (rows : List Row) → AllFit id how Passes rows
+    → HasRow id how Passes usual (after_defaults behind (after_default (id, how, usual ∷ []) (after_defaults before rows)))
+defaults_have id how Passes usual self before behind new rows p =
+    let first = after_defaults before rows in
+    defaults_stay id how Passes usual behind (after_default (id, how, usual ∷ []) first)
+    (default_has id how Passes usual self first (defaults_keep id how Passes before new rows p))
+
 -- rows that fit no row of the argument have none
 pub none_has : (id : Text) (how : Reading) (rows : List Row) → AllFit id how (λ _. ⊥) rows → find (λ x. bytes_eq x.id id) rows ≡ None
 none_has id how [] p = refl

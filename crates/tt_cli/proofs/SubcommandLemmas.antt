@@ -14,8 +14,10 @@ use Rattle.clap.specs.declared.error.kind.ErrorKind.{ErrorKind}
 use Rattle.clap.specs.declared.error.kind.ErrorKind.TheVariants as kind
 use Rattle.clap.specs.declared.parser.matches.ValueSource.TheVariants.{CommandLine}
 use Rattle.clap.specs.Takes.{is_given}
-use Rattle.tt_cli.specs.CommandLine.{batch, closed, command_line, existing, log_argument, log_option, rounds, why}
-use Rattle.tt_cli.proofs.RowLemmas.{AllFit, Fits, HasRow, default_has, default_keeps, default_stays, new_row, none_has, use_keeps}
+use Rattle.clap.specs.declared.builder.action.ArgAction.TheVariants.{SetTrue}
+use Rattle.clap.specs.Words.{new_rule}
+use Rattle.tt_cli.specs.CommandLine.{batch, command_line, log_argument, log_option, rounds}
+use Rattle.tt_cli.proofs.RowLemmas.{AllFit, Default, Fits, HasRow, after_defaults, default_has, default_keeps, defaults_have, defaults_keep, new_row, none_has, use_keeps}
 use Rattle.tt_cli.proofs.WalkLemmas.{Keeps, StopsAt, none_of, settles, walk_keeps, walk_stops}
 
 -- ---- the built command
@@ -30,16 +32,11 @@ batch_rule = record batch { range = Some (record { start_inclusive = 1; end_incl
 abbrev rounds_rule : Rule
 rounds_rule = record rounds { range = Some (record { start_inclusive = 1; end_inclusive = 1 }) }
 
-abbrev closed_rule : Rule
-closed_rule = record closed {
-  defaults = codes "false" ∷ [];
-  missing = codes "true" ∷ [];
-  parser = Some parser.Bool;
-  range = Some (record { start_inclusive = 0; end_inclusive = 0 });
-}
-
-abbrev why_rule : Rule
-why_rule = record why {
+-- an option without a value
+abbrev flag_rule : Text → Rule
+flag_rule name = record (new_rule name) {
+  long = Some name;
+  action = Some SetTrue;
   defaults = codes "false" ∷ [];
   missing = codes "true" ∷ [];
   parser = Some parser.Bool;
@@ -48,14 +45,6 @@ why_rule = record why {
 
 abbrev log_rule : Rule
 log_rule = record log_option { range = Some (record { start_inclusive = 1; end_inclusive = 1 }); parser = Some parser.String }
-
-abbrev existing_rule : Rule
-existing_rule = record existing {
-  defaults = codes "false" ∷ [];
-  missing = codes "true" ∷ [];
-  parser = Some parser.Bool;
-  range = Some (record { start_inclusive = 0; end_inclusive = 0 });
-}
 
 abbrev file_rule : Rule
 file_rule = record log_argument { range = Some (record { start_inclusive = 1; end_inclusive = 1 }); parser = Some parser.String; index = Some 1 }
@@ -91,13 +80,15 @@ session_leaf = third_shape (built command_line).subs
 abbrev log_leaf : Shape
 log_leaf = fourth_shape (built command_line).subs
 
-replay_rules : replay_leaf.rules ≡ batch_rule ∷ closed_rule ∷ why_rule ∷ help_rule ∷ []
+replay_rules : replay_leaf.rules
+    ≡ batch_rule ∷ flag_rule (codes "closed") ∷ flag_rule (codes "why") ∷ flag_rule (codes "diff") ∷ flag_rule (codes "dry") ∷ help_rule ∷ []
 replay_rules = refl
 
-run_rules : run_leaf.rules ≡ batch_rule ∷ rounds_rule ∷ closed_rule ∷ why_rule ∷ help_rule ∷ []
+run_rules : run_leaf.rules
+    ≡ batch_rule ∷ rounds_rule ∷ flag_rule (codes "closed") ∷ flag_rule (codes "why") ∷ flag_rule (codes "diff") ∷ help_rule ∷ []
 run_rules = refl
 
-session_rules : session_leaf.rules ≡ log_rule ∷ existing_rule ∷ help_rule ∷ []
+session_rules : session_leaf.rules ≡ log_rule ∷ flag_rule (codes "existing") ∷ help_rule ∷ []
 session_rules = refl
 
 log_rules : log_leaf.rules ≡ file_rule ∷ help_rule ∷ []
@@ -158,22 +149,12 @@ module _ (id : Text) (how : Reading) (Passes : Text → Type 0) where
       let one = one_value (length (v ∷ w ∷ rest)) parts.0 in
       absurd (omega arith)
 
-  abbrev ClosedFits : Type 0
-  ClosedFits = Fits id how Passes (new_row (codes "closed") AsWritten CommandLine (codes "true" ∷ []))
+  abbrev FlagFits : Text → Type 0
+  FlagFits name = Fits id how Passes (new_row name AsWritten CommandLine (codes "true" ∷ []))
 
-  closed_keeps : ClosedFits → Keeps false (AllFit id how Passes) closed_rule
-  closed_keeps fits [] rows p e = use_keeps id how Passes (codes "closed") AsWritten CommandLine (codes "true" ∷ []) fits rows p
-  closed_keeps fits (v ∷ rest) rows p e =
-      let parts = none_of (range_kinds 0 0 (length (v ∷ rest))) _ e in
-      let none = no_value (length (v ∷ rest)) parts.0 in
-      absurd (omega arith)
-
-  abbrev WhyFits : Type 0
-  WhyFits = Fits id how Passes (new_row (codes "why") AsWritten CommandLine (codes "true" ∷ []))
-
-  why_keeps : WhyFits → Keeps false (AllFit id how Passes) why_rule
-  why_keeps fits [] rows p e = use_keeps id how Passes (codes "why") AsWritten CommandLine (codes "true" ∷ []) fits rows p
-  why_keeps fits (v ∷ rest) rows p e =
+  flag_keeps : (name : Text) → FlagFits name → Keeps false (AllFit id how Passes) (flag_rule name)
+  flag_keeps name fits [] rows p e = use_keeps id how Passes name AsWritten CommandLine (codes "true" ∷ []) fits rows p
+  flag_keeps name fits (v ∷ rest) rows p e =
       let parts = none_of (range_kinds 0 0 (length (v ∷ rest))) _ e in
       let none = no_value (length (v ∷ rest)) parts.0 in
       absurd (omega arith)
@@ -190,16 +171,6 @@ module _ (id : Text) (how : Reading) (Passes : Text → Type 0) where
       let one = one_value (length (v ∷ w ∷ rest)) parts.0 in
       absurd (omega arith)
 
-  abbrev ExistingFits : Type 0
-  ExistingFits = Fits id how Passes (new_row (codes "existing") AsWritten CommandLine (codes "true" ∷ []))
-
-  existing_keeps : ExistingFits → Keeps false (AllFit id how Passes) existing_rule
-  existing_keeps fits [] rows p e = use_keeps id how Passes (codes "existing") AsWritten CommandLine (codes "true" ∷ []) fits rows p
-  existing_keeps fits (v ∷ rest) rows p e =
-      let parts = none_of (range_kinds 0 0 (length (v ∷ rest))) _ e in
-      let none = no_value (length (v ∷ rest)) parts.0 in
-      absurd (omega arith)
-
   file_keeps : PathFits (codes "file") → Keeps false (AllFit id how Passes) file_rule
   file_keeps fits [] rows p e = absurd (cc)
   file_keeps fits (v ∷ []) rows p e = use_keeps id how Passes (codes "file") AsWritten CommandLine (v ∷ []) (fits v) rows p
@@ -214,15 +185,24 @@ module _ (id : Text) (how : Reading) (Passes : Text → Type 0) where
       let bad : kind.DisplayHelp ∷ [] ≡ [] = parts.1 in
       absurd (cc)
 
-  replay_uses : BatchFits → ClosedFits → WhyFits → Each (Keeps false (AllFit id how Passes)) replay_leaf.rules
-  replay_uses batch_fits closed_fits why_fits = (batch_keeps batch_fits, (closed_keeps closed_fits, (why_keeps why_fits, (help_keeps, tt))))
+  -- the flags of both runs, and that of one of them
+  abbrev RunFlagsFit : Type 0
+  RunFlagsFit = FlagFits (codes "closed") × FlagFits (codes "why") × FlagFits (codes "diff")
 
-  run_uses : BatchFits → RoundsFit → ClosedFits → WhyFits → Each (Keeps false (AllFit id how Passes)) run_leaf.rules
-  run_uses batch_fits rounds_fit closed_fits why_fits =
-      (batch_keeps batch_fits, (rounds_keep rounds_fit, (closed_keeps closed_fits, (why_keeps why_fits, (help_keeps, tt)))))
+  replay_uses : BatchFits → RunFlagsFit → FlagFits (codes "dry") → Each (Keeps false (AllFit id how Passes)) replay_leaf.rules
+  replay_uses batch_fits flags dry_fits = (
+    batch_keeps batch_fits,
+    (flag_keeps (codes "closed") flags.0, (flag_keeps (codes "why") flags.1, (flag_keeps (codes "diff") flags.2, (flag_keeps (codes "dry") dry_fits, (help_keeps, tt))))),
+  )
 
-  session_uses : PathFits (codes "log") → ExistingFits → Each (Keeps false (AllFit id how Passes)) session_leaf.rules
-  session_uses log_fits existing_fits = (log_keeps log_fits, (existing_keeps existing_fits, (help_keeps, tt)))
+  run_uses : BatchFits → RoundsFit → RunFlagsFit → Each (Keeps false (AllFit id how Passes)) run_leaf.rules
+  run_uses batch_fits rounds_fit flags = (
+    batch_keeps batch_fits,
+    (rounds_keep rounds_fit, (flag_keeps (codes "closed") flags.0, (flag_keeps (codes "why") flags.1, (flag_keeps (codes "diff") flags.2, (help_keeps, tt))))),
+  )
+
+  session_uses : PathFits (codes "log") → FlagFits (codes "existing") → Each (Keeps false (AllFit id how Passes)) session_leaf.rules
+  session_uses log_fits existing_fits = (log_keeps log_fits, (flag_keeps (codes "existing") existing_fits, (help_keeps, tt)))
 
 -- the rows of a level before its defaults
 abbrev rows_of : Shape → List Text → List Row
@@ -249,20 +229,13 @@ HasBatch = HasRow (codes "batch") WithoutMinus (IsInRange 1 10000) (codes "16")
 abbrev pub HasRounds : List Row → Type 0
 HasRounds = HasRow (codes "rounds") WithoutMinus (IsInRange 0 1000) (codes "8")
 
-abbrev pub HasNoRounds : List Row → Type 0
-HasNoRounds rows = find (λ x. bytes_eq x.id (codes "rounds")) rows ≡ None
+-- no row, as of an option that a subcommand doesn't take
+abbrev pub HasNoRow : Text → List Row → Type 0
+HasNoRow name rows = find (λ x. bytes_eq x.id name) rows ≡ None
 
 -- `true` from the words, or `false`
-abbrev pub HasClosed : List Row → Type 0
-HasClosed = HasRow (codes "closed") AsWritten IsTrueText (codes "false")
-
--- the same of `--why`
-abbrev pub HasWhy : List Row → Type 0
-HasWhy = HasRow (codes "why") AsWritten IsTrueText (codes "false")
-
--- the same of `--existing`
-abbrev pub HasExisting : List Row → Type 0
-HasExisting = HasRow (codes "existing") AsWritten IsTrueText (codes "false")
+abbrev pub HasFlag : Text → List Row → Type 0
+HasFlag name = HasRow name AsWritten IsTrueText (codes "false")
 
 abbrev FitBatch : List Row → Type 0
 FitBatch = AllFit (codes "batch") WithoutMinus (IsInRange 1 10000)
@@ -273,14 +246,11 @@ FitRounds = AllFit (codes "rounds") WithoutMinus (IsInRange 0 1000)
 abbrev FitNoRounds : List Row → Type 0
 FitNoRounds = AllFit (codes "rounds") WithoutMinus (λ _. ⊥)
 
-abbrev FitClosed : List Row → Type 0
-FitClosed = AllFit (codes "closed") AsWritten IsTrueText
+abbrev FitFlag : Text → List Row → Type 0
+FitFlag name = AllFit name AsWritten IsTrueText
 
-abbrev FitWhy : List Row → Type 0
-FitWhy = AllFit (codes "why") AsWritten IsTrueText
-
-abbrev FitExisting : List Row → Type 0
-FitExisting = AllFit (codes "existing") AsWritten IsTrueText
+abbrev FitNoFlag : Text → List Row → Type 0
+FitNoFlag name = AllFit name AsWritten (λ _. ⊥)
 
 -- any text from the words
 abbrev pub FitPath : Text → List Row → Type 0
@@ -292,33 +262,38 @@ Uses s P = Each (Keeps false P) s.rules
 
 batch_uses : Uses replay_leaf FitBatch × Uses run_leaf FitBatch
 batch_uses = (
-  replay_uses (codes "batch") WithoutMinus (IsInRange 1 10000) (λ v passed same. (v, refl, refl, refl, passed))
-      (λ same. absurd (cc)) (λ same. absurd (cc)),
-  run_uses (codes "batch") WithoutMinus (IsInRange 1 10000) (λ v passed same. (v, refl, refl, refl, passed))
-      (λ v passed same. absurd (cc)) (λ same. absurd (cc)) (λ same. absurd (cc)),
+  replay_uses (codes "batch") WithoutMinus (IsInRange 1 10000) (λ v passed same. (v, refl, refl, refl, passed)) (λ same. absurd (cc), λ same. absurd (cc), λ same. absurd (cc)) (λ same. absurd (cc)),
+  run_uses (codes "batch") WithoutMinus (IsInRange 1 10000) (λ v passed same. (v, refl, refl, refl, passed)) (λ v passed same. absurd (cc)) (λ same. absurd (cc), λ same. absurd (cc), λ same. absurd (cc)),
 )
 
 rounds_uses : Uses replay_leaf FitNoRounds × Uses run_leaf FitRounds
 rounds_uses = (
-  replay_uses (codes "rounds") WithoutMinus (λ _. ⊥) (λ v passed same. absurd (cc)) (λ same. absurd (cc)) (λ same. absurd (cc)),
-  run_uses (codes "rounds") WithoutMinus (IsInRange 0 1000) (λ v passed same. absurd (cc))
-      (λ v passed same. (v, refl, refl, refl, passed)) (λ same. absurd (cc)) (λ same. absurd (cc)),
+  replay_uses (codes "rounds") WithoutMinus (λ _. ⊥) (λ v passed same. absurd (cc)) (λ same. absurd (cc), λ same. absurd (cc), λ same. absurd (cc)) (λ same. absurd (cc)),
+  run_uses (codes "rounds") WithoutMinus (IsInRange 0 1000) (λ v passed same. absurd (cc)) (λ v passed same. (v, refl, refl, refl, passed)) (λ same. absurd (cc), λ same. absurd (cc), λ same. absurd (cc)),
 )
 
-closed_uses : Uses replay_leaf FitClosed × Uses run_leaf FitClosed
+closed_uses : Uses replay_leaf (FitFlag (codes "closed")) × Uses run_leaf (FitFlag (codes "closed"))
 closed_uses = (
-  replay_uses (codes "closed") AsWritten IsTrueText (λ v passed same. absurd (cc))
-      (λ same. (codes "true", refl, refl, refl, refl)) (λ same. absurd (cc)),
-  run_uses (codes "closed") AsWritten IsTrueText (λ v passed same. absurd (cc))
-      (λ v passed same. absurd (cc)) (λ same. (codes "true", refl, refl, refl, refl)) (λ same. absurd (cc)),
+  replay_uses (codes "closed") AsWritten IsTrueText (λ v passed same. absurd (cc)) (λ same. (codes "true", refl, refl, refl, refl), λ same. absurd (cc), λ same. absurd (cc)) (λ same. absurd (cc)),
+  run_uses (codes "closed") AsWritten IsTrueText (λ v passed same. absurd (cc)) (λ v passed same. absurd (cc)) (λ same. (codes "true", refl, refl, refl, refl), λ same. absurd (cc), λ same. absurd (cc)),
 )
 
-why_uses : Uses replay_leaf FitWhy × Uses run_leaf FitWhy
+why_uses : Uses replay_leaf (FitFlag (codes "why")) × Uses run_leaf (FitFlag (codes "why"))
 why_uses = (
-  replay_uses (codes "why") AsWritten IsTrueText (λ v passed same. absurd (cc))
-      (λ same. absurd (cc)) (λ same. (codes "true", refl, refl, refl, refl)),
-  run_uses (codes "why") AsWritten IsTrueText (λ v passed same. absurd (cc))
-      (λ v passed same. absurd (cc)) (λ same. absurd (cc)) (λ same. (codes "true", refl, refl, refl, refl)),
+  replay_uses (codes "why") AsWritten IsTrueText (λ v passed same. absurd (cc)) (λ same. absurd (cc), λ same. (codes "true", refl, refl, refl, refl), λ same. absurd (cc)) (λ same. absurd (cc)),
+  run_uses (codes "why") AsWritten IsTrueText (λ v passed same. absurd (cc)) (λ v passed same. absurd (cc)) (λ same. absurd (cc), λ same. (codes "true", refl, refl, refl, refl), λ same. absurd (cc)),
+)
+
+diff_uses : Uses replay_leaf (FitFlag (codes "diff")) × Uses run_leaf (FitFlag (codes "diff"))
+diff_uses = (
+  replay_uses (codes "diff") AsWritten IsTrueText (λ v passed same. absurd (cc)) (λ same. absurd (cc), λ same. absurd (cc), λ same. (codes "true", refl, refl, refl, refl)) (λ same. absurd (cc)),
+  run_uses (codes "diff") AsWritten IsTrueText (λ v passed same. absurd (cc)) (λ v passed same. absurd (cc)) (λ same. absurd (cc), λ same. absurd (cc), λ same. (codes "true", refl, refl, refl, refl)),
+)
+
+dry_uses : Uses replay_leaf (FitFlag (codes "dry")) × Uses run_leaf (FitNoFlag (codes "dry"))
+dry_uses = (
+  replay_uses (codes "dry") AsWritten IsTrueText (λ v passed same. absurd (cc)) (λ same. absurd (cc), λ same. absurd (cc), λ same. absurd (cc)) (λ same. (codes "true", refl, refl, refl, refl)),
+  run_uses (codes "dry") AsWritten (λ _. ⊥) (λ v passed same. absurd (cc)) (λ v passed same. absurd (cc)) (λ same. absurd (cc), λ same. absurd (cc), λ same. absurd (cc)),
 )
 
 path_uses : Uses session_leaf (FitPath (codes "log")) × Uses log_leaf (FitPath (codes "file"))
@@ -327,7 +302,7 @@ path_uses = (
   (file_keeps (codes "file") AsWritten (λ _. ⊤) (λ v same. (v, refl, refl, refl, tt)), (help_keeps (codes "file") AsWritten (λ _. ⊤), tt)),
 )
 
-existing_uses : Uses session_leaf FitExisting
+existing_uses : Uses session_leaf (FitFlag (codes "existing"))
 existing_uses = session_uses (codes "existing") AsWritten IsTrueText (λ v same. absurd (cc)) (λ same. (codes "true", refl, refl, refl, refl))
 
 same_rows : {X : Type 0} (P : X → Type 0) (b : Bool) (rows : X) → P rows → P (cond b rows rows)
@@ -336,30 +311,34 @@ same_rows P false rows p = p
 
 -- ---- the defaults
 
-has_batch : (rows : List Row) → FitBatch rows → HasBatch (with_default rows batch_rule)
-has_batch = default_has (codes "batch") WithoutMinus (IsInRange 1 10000) (codes "16") refl
+abbrev batch_default : Default
+batch_default = (codes "batch", WithoutMinus, codes "16" ∷ [])
 
-has_rounds : (rows : List Row) → FitRounds rows → HasRounds (with_default rows rounds_rule)
-has_rounds = default_has (codes "rounds") WithoutMinus (IsInRange 0 1000) (codes "8") refl
+abbrev rounds_default : Default
+rounds_default = (codes "rounds", WithoutMinus, codes "8" ∷ [])
 
-has_closed : (rows : List Row) → FitClosed rows → HasClosed (with_default rows closed_rule)
-has_closed = default_has (codes "closed") AsWritten IsTrueText (codes "false") refl
+abbrev flag_default : Text → Default
+flag_default name = (name, AsWritten, codes "false" ∷ [])
 
-has_why : (rows : List Row) → FitWhy rows → HasWhy (with_default rows why_rule)
-has_why = default_has (codes "why") AsWritten IsTrueText (codes "false") refl
+abbrev replay_defaults : List Default
+replay_defaults =
+    batch_default ∷ flag_default (codes "closed") ∷ flag_default (codes "why") ∷ flag_default (codes "diff") ∷ flag_default (codes "dry") ∷ []
 
-has_existing : (rows : List Row) → FitExisting rows → HasExisting (with_default rows existing_rule)
-has_existing = default_has (codes "existing") AsWritten IsTrueText (codes "false") refl
+abbrev run_defaults : List Default
+run_defaults =
+    batch_default ∷ rounds_default ∷ flag_default (codes "closed") ∷ flag_default (codes "why") ∷ flag_default (codes "diff") ∷ []
 
 -- ---- one level
 
 -- `replay` was entered, and has a row for each of its options
 abbrev pub HasReplay : Text → List Row → Type 0
-HasReplay name rows = (name ≡ codes "replay") × HasBatch rows × HasClosed rows × HasWhy rows × HasNoRounds rows
+HasReplay name rows = (name ≡ codes "replay") × HasBatch rows × HasFlag (codes "closed") rows × HasFlag (codes "why") rows
+    × HasFlag (codes "diff") rows × HasFlag (codes "dry") rows × HasNoRow (codes "rounds") rows
 
 -- `run` was entered, and has a row for each of its options
 abbrev pub HasRun : Text → List Row → Type 0
-HasRun name rows = (name ≡ codes "run") × HasBatch rows × HasClosed rows × HasWhy rows × HasRounds rows
+HasRun name rows = (name ≡ codes "run") × HasBatch rows × HasFlag (codes "closed") rows × HasFlag (codes "why") rows
+    × HasFlag (codes "diff") rows × HasNoRow (codes "dry") rows × HasRounds rows
 
 -- `replay` or `run` was entered, and has a row for each of its options
 abbrev pub HasOptions : Text → List Row → Type 0
@@ -367,7 +346,7 @@ HasOptions name rows = HasReplay name rows ⊎ HasRun name rows
 
 -- `session` was entered, and has a row for `--log` where that is given, and one for `--existing`
 abbrev pub HasSession : Text → List Row → Type 0
-HasSession name rows = (name ≡ codes "session") × FitPath (codes "log") rows × HasExisting rows
+HasSession name rows = (name ≡ codes "session") × FitPath (codes "log") rows × HasFlag (codes "existing") rows
 
 -- `log` was entered, and has a row for its argument
 abbrev pub HasLog : Text → List Row → Type 0
@@ -380,83 +359,82 @@ HasCommand name rows = HasOptions name rows ⊎ (HasSession name rows ⊎ HasLog
 pub batch_of : (name : Text) (rows : List Row) → HasOptions name rows → HasBatch rows
 batch_of name rows has = elim has [ inl replay ↦ replay.1 | inr run ↦ run.1 ]
 
-pub closed_of : (name : Text) (rows : List Row) → HasOptions name rows → HasClosed rows
+pub closed_of : (name : Text) (rows : List Row) → HasOptions name rows → HasFlag (codes "closed") rows
 closed_of name rows has = elim has [ inl replay ↦ replay.2 | inr run ↦ run.2 ]
 
-pub why_of : (name : Text) (rows : List Row) → HasOptions name rows → HasWhy rows
+pub why_of : (name : Text) (rows : List Row) → HasOptions name rows → HasFlag (codes "why") rows
 why_of name rows has = elim has [ inl replay ↦ replay.3 | inr run ↦ run.3 ]
 
-pub rounds_of : (name : Text) (rows : List Row) → HasOptions name rows → HasRounds rows ⊎ HasNoRounds rows
-rounds_of name rows has = elim has [ inl replay ↦ inr replay.4 | inr run ↦ inl run.4 ]
+pub diff_of : (name : Text) (rows : List Row) → HasOptions name rows → HasFlag (codes "diff") rows
+diff_of name rows has = elim has [ inl replay ↦ replay.4 | inr run ↦ run.4 ]
 
-replay_has : (rows : List Row) → FitBatch rows → FitClosed rows → FitWhy rows → FitNoRounds rows
-    → HasReplay (codes "replay") (with_default (with_default (with_default rows batch_rule) closed_rule) why_rule)
-replay_has rows batch_fit closed_fit why_fit none_fit =
-    let first = with_default rows batch_rule in
-    let second = with_default first closed_rule in
-    let last = with_default second why_rule in
-    let batch_second = default_stays (codes "batch") WithoutMinus (IsInRange 1 10000) (codes "16") (codes "closed") AsWritten (codes "false" ∷ []) first (has_batch rows batch_fit) in
-    let batch_row = default_stays (codes "batch") WithoutMinus (IsInRange 1 10000) (codes "16") (codes "why") AsWritten (codes "false" ∷ []) second batch_second in
-    let closed_first = default_keeps (codes "closed") AsWritten IsTrueText (codes "batch") WithoutMinus (codes "16" ∷ []) (λ same. absurd (cc)) rows closed_fit in
-    let closed_row = default_stays (codes "closed") AsWritten IsTrueText (codes "false") (codes "why") AsWritten (codes "false" ∷ []) second (has_closed first closed_first) in
-    let why_first = default_keeps (codes "why") AsWritten IsTrueText (codes "batch") WithoutMinus (codes "16" ∷ []) (λ same. absurd (cc)) rows why_fit in
-    let why_second = default_keeps (codes "why") AsWritten IsTrueText (codes "closed") AsWritten (codes "false" ∷ []) (λ same. absurd (cc)) first why_first in
-    let none_first = default_keeps (codes "rounds") WithoutMinus (λ _. ⊥) (codes "batch") WithoutMinus (codes "16" ∷ []) (λ same. absurd (cc)) rows none_fit in
-    let none_second = default_keeps (codes "rounds") WithoutMinus (λ _. ⊥) (codes "closed") AsWritten (codes "false" ∷ []) (λ same. absurd (cc)) first none_first in
-    let none_last = default_keeps (codes "rounds") WithoutMinus (λ _. ⊥) (codes "why") AsWritten (codes "false" ∷ []) (λ same. absurd (cc)) second none_second in
-    (refl, batch_row, closed_row, has_why second why_second, none_has (codes "rounds") WithoutMinus last none_last)
+pub dry_of : (name : Text) (rows : List Row) → HasOptions name rows → HasFlag (codes "dry") rows ⊎ HasNoRow (codes "dry") rows
+dry_of name rows has = elim has [ inl replay ↦ inl replay.5 | inr run ↦ inr run.5 ]
 
-run_has : (rows : List Row) → FitBatch rows → FitRounds rows → FitClosed rows → FitWhy rows
-    → HasRun (codes "run") (with_default (with_default (with_default (with_default rows batch_rule) rounds_rule) closed_rule) why_rule)
-run_has rows batch_fit rounds_fit closed_fit why_fit =
-    let first = with_default rows batch_rule in
-    let second = with_default first rounds_rule in
-    let third = with_default second closed_rule in
-    let batch_second = default_stays (codes "batch") WithoutMinus (IsInRange 1 10000) (codes "16") (codes "rounds") WithoutMinus (codes "8" ∷ []) first (has_batch rows batch_fit) in
-    let batch_third = default_stays (codes "batch") WithoutMinus (IsInRange 1 10000) (codes "16") (codes "closed") AsWritten (codes "false" ∷ []) second batch_second in
-    let batch_row = default_stays (codes "batch") WithoutMinus (IsInRange 1 10000) (codes "16") (codes "why") AsWritten (codes "false" ∷ []) third batch_third in
-    let rounds_first = default_keeps (codes "rounds") WithoutMinus (IsInRange 0 1000) (codes "batch") WithoutMinus (codes "16" ∷ []) (λ same. absurd (cc)) rows rounds_fit in
-    let rounds_third = default_stays (codes "rounds") WithoutMinus (IsInRange 0 1000) (codes "8") (codes "closed") AsWritten (codes "false" ∷ []) second (has_rounds first rounds_first) in
-    let rounds_row = default_stays (codes "rounds") WithoutMinus (IsInRange 0 1000) (codes "8") (codes "why") AsWritten (codes "false" ∷ []) third rounds_third in
-    let closed_first = default_keeps (codes "closed") AsWritten IsTrueText (codes "batch") WithoutMinus (codes "16" ∷ []) (λ same. absurd (cc)) rows closed_fit in
-    let closed_second = default_keeps (codes "closed") AsWritten IsTrueText (codes "rounds") WithoutMinus (codes "8" ∷ []) (λ same. absurd (cc)) first closed_first in
-    let closed_row = default_stays (codes "closed") AsWritten IsTrueText (codes "false") (codes "why") AsWritten (codes "false" ∷ []) third (has_closed second closed_second) in
-    let why_first = default_keeps (codes "why") AsWritten IsTrueText (codes "batch") WithoutMinus (codes "16" ∷ []) (λ same. absurd (cc)) rows why_fit in
-    let why_second = default_keeps (codes "why") AsWritten IsTrueText (codes "rounds") WithoutMinus (codes "8" ∷ []) (λ same. absurd (cc)) first why_first in
-    let why_third = default_keeps (codes "why") AsWritten IsTrueText (codes "closed") AsWritten (codes "false" ∷ []) (λ same. absurd (cc)) second why_second in
-    (refl, batch_row, closed_row, has_why third why_third, rounds_row)
+pub rounds_of : (name : Text) (rows : List Row) → HasOptions name rows → HasRounds rows ⊎ HasNoRow (codes "rounds") rows
+rounds_of name rows has = elim has [ inl replay ↦ inr replay.6 | inr run ↦ inl run.6 ]
+
+replay_has : (rows : List Row) → FitBatch rows → FitFlag (codes "closed") rows → FitFlag (codes "why") rows → FitFlag (codes "diff") rows
+    → FitFlag (codes "dry") rows → FitNoRounds rows → HasReplay (codes "replay") (after_defaults replay_defaults rows)
+replay_has rows batch_fit closed_fit why_fit diff_fit dry_fit none_fit = (
+  refl,
+  defaults_have (codes "batch") WithoutMinus (IsInRange 1 10000) (codes "16") refl [] (flag_default (codes "closed") ∷ flag_default (codes "why") ∷ flag_default (codes "diff") ∷ flag_default (codes "dry") ∷ []) tt rows batch_fit,
+  defaults_have (codes "closed") AsWritten IsTrueText (codes "false") refl (batch_default ∷ []) (flag_default (codes "why") ∷ flag_default (codes "diff") ∷ flag_default (codes "dry") ∷ []) ((λ same. absurd (cc)), tt) rows closed_fit,
+  defaults_have (codes "why") AsWritten IsTrueText (codes "false") refl (batch_default ∷ flag_default (codes "closed") ∷ []) (flag_default (codes "diff") ∷ flag_default (codes "dry") ∷ []) ((λ same. absurd (cc)), ((λ same. absurd (cc)), tt)) rows why_fit,
+  defaults_have (codes "diff") AsWritten IsTrueText (codes "false") refl (batch_default ∷ flag_default (codes "closed") ∷ flag_default (codes "why") ∷ []) (flag_default (codes "dry") ∷ []) ((λ same. absurd (cc)), ((λ same. absurd (cc)), ((λ same. absurd (cc)), tt))) rows diff_fit,
+  defaults_have (codes "dry") AsWritten IsTrueText (codes "false") refl (batch_default ∷ flag_default (codes "closed") ∷ flag_default (codes "why") ∷ flag_default (codes "diff") ∷ []) [] ((λ same. absurd (cc)), ((λ same. absurd (cc)), ((λ same. absurd (cc)), ((λ same. absurd (cc)), tt)))) rows dry_fit,
+  none_has (codes "rounds") WithoutMinus (after_defaults replay_defaults rows)
+      (defaults_keep (codes "rounds") WithoutMinus (λ _. ⊥) replay_defaults ((λ same. absurd (cc)), ((λ same. absurd (cc)), ((λ same. absurd (cc)), ((λ same. absurd (cc)), ((λ same. absurd (cc)), tt))))) rows none_fit),
+)
+
+run_has : (rows : List Row) → FitBatch rows → FitRounds rows → FitFlag (codes "closed") rows → FitFlag (codes "why") rows
+    → FitFlag (codes "diff") rows → FitNoFlag (codes "dry") rows → HasRun (codes "run") (after_defaults run_defaults rows)
+run_has rows batch_fit rounds_fit closed_fit why_fit diff_fit none_fit = (
+  refl,
+  defaults_have (codes "batch") WithoutMinus (IsInRange 1 10000) (codes "16") refl [] (rounds_default ∷ flag_default (codes "closed") ∷ flag_default (codes "why") ∷ flag_default (codes "diff") ∷ []) tt rows batch_fit,
+  defaults_have (codes "closed") AsWritten IsTrueText (codes "false") refl (batch_default ∷ rounds_default ∷ []) (flag_default (codes "why") ∷ flag_default (codes "diff") ∷ []) ((λ same. absurd (cc)), ((λ same. absurd (cc)), tt)) rows closed_fit,
+  defaults_have (codes "why") AsWritten IsTrueText (codes "false") refl (batch_default ∷ rounds_default ∷ flag_default (codes "closed") ∷ []) (flag_default (codes "diff") ∷ []) ((λ same. absurd (cc)), ((λ same. absurd (cc)), ((λ same. absurd (cc)), tt))) rows why_fit,
+  defaults_have (codes "diff") AsWritten IsTrueText (codes "false") refl (batch_default ∷ rounds_default ∷ flag_default (codes "closed") ∷ flag_default (codes "why") ∷ []) [] ((λ same. absurd (cc)), ((λ same. absurd (cc)), ((λ same. absurd (cc)), ((λ same. absurd (cc)), tt)))) rows diff_fit,
+  none_has (codes "dry") AsWritten (after_defaults run_defaults rows)
+      (defaults_keep (codes "dry") AsWritten (λ _. ⊥) run_defaults ((λ same. absurd (cc)), ((λ same. absurd (cc)), ((λ same. absurd (cc)), ((λ same. absurd (cc)), ((λ same. absurd (cc)), tt))))) rows none_fit),
+  defaults_have (codes "rounds") WithoutMinus (IsInRange 0 1000) (codes "8") refl (batch_default ∷ []) (flag_default (codes "closed") ∷ flag_default (codes "why") ∷ flag_default (codes "diff") ∷ []) ((λ same. absurd (cc)), tt) rows rounds_fit,
+)
 
 at_replay : (words : List Text) → level_fault replay_leaf [] nothing_held words false [] ≡ [] → HasOptions (codes "replay") (rows_after replay_leaf.rules [] words)
 at_replay words e =
     let rows = rows_of replay_leaf words in
     let batch_fit = words_fit replay_leaf FitBatch batch_uses.0 tt words e in
-    let closed_fit = words_fit replay_leaf FitClosed closed_uses.0 tt words e in
-    let why_fit = words_fit replay_leaf FitWhy why_uses.0 tt words e in
+    let closed_fit = words_fit replay_leaf (FitFlag (codes "closed")) closed_uses.0 tt words e in
+    let why_fit = words_fit replay_leaf (FitFlag (codes "why")) why_uses.0 tt words e in
+    let diff_fit = words_fit replay_leaf (FitFlag (codes "diff")) diff_uses.0 tt words e in
+    let dry_fit = words_fit replay_leaf (FitFlag (codes "dry")) dry_uses.0 tt words e in
     let none_fit = words_fit replay_leaf FitNoRounds rounds_uses.0 tt words e in
-    let last = with_default (with_default (with_default rows batch_rule) closed_rule) why_rule in
-    same_rows (HasOptions (codes "replay")) (has_row (codes "help") last) last (inl (replay_has rows batch_fit closed_fit why_fit none_fit))
+    let last = after_defaults replay_defaults rows in
+    same_rows (HasOptions (codes "replay")) (has_row (codes "help") last) last (inl (replay_has rows batch_fit closed_fit why_fit diff_fit dry_fit none_fit))
 
 at_run : (words : List Text) → level_fault run_leaf [] nothing_held words false [] ≡ [] → HasOptions (codes "run") (rows_after run_leaf.rules [] words)
 at_run words e =
     let rows = rows_of run_leaf words in
     let batch_fit = words_fit run_leaf FitBatch batch_uses.1 tt words e in
     let rounds_fit = words_fit run_leaf FitRounds rounds_uses.1 tt words e in
-    let closed_fit = words_fit run_leaf FitClosed closed_uses.1 tt words e in
-    let why_fit = words_fit run_leaf FitWhy why_uses.1 tt words e in
-    let last = with_default (with_default (with_default (with_default rows batch_rule) rounds_rule) closed_rule) why_rule in
-    same_rows (HasOptions (codes "run")) (has_row (codes "help") last) last (inr (run_has rows batch_fit rounds_fit closed_fit why_fit))
+    let closed_fit = words_fit run_leaf (FitFlag (codes "closed")) closed_uses.1 tt words e in
+    let why_fit = words_fit run_leaf (FitFlag (codes "why")) why_uses.1 tt words e in
+    let diff_fit = words_fit run_leaf (FitFlag (codes "diff")) diff_uses.1 tt words e in
+    let none_fit = words_fit run_leaf (FitNoFlag (codes "dry")) dry_uses.1 tt words e in
+    let last = after_defaults run_defaults rows in
+    same_rows (HasOptions (codes "run")) (has_row (codes "help") last) last (inr (run_has rows batch_fit rounds_fit closed_fit why_fit diff_fit none_fit))
 
 at_session : (words : List Text) → level_fault session_leaf [] nothing_held words false [] ≡ [] → HasSession (codes "session") (rows_after session_leaf.rules [] words)
 at_session words e =
     let rows = rows_of session_leaf words in
     let fit = words_fit session_leaf (FitPath (codes "log")) path_uses.0 tt words e in
-    let existing_fit = words_fit session_leaf FitExisting existing_uses tt words e in
+    let existing_fit = words_fit session_leaf (FitFlag (codes "existing")) existing_uses tt words e in
     let first = with_default rows log_rule in
-    let last = with_default first existing_rule in
+    let last = with_default first (flag_rule (codes "existing")) in
     let fit_first = same_rows (FitPath (codes "log")) (has_row (codes "log") rows) rows fit in
-    let existing_first = same_rows FitExisting (has_row (codes "log") rows) rows existing_fit in
+    let existing_first = same_rows (FitFlag (codes "existing")) (has_row (codes "log") rows) rows existing_fit in
     let fit_last = default_keeps (codes "log") AsWritten (λ _. ⊤) (codes "existing") AsWritten (codes "false" ∷ []) (λ same. absurd (cc)) first fit_first in
-    same_rows (HasSession (codes "session")) (has_row (codes "help") last) last (refl, fit_last, has_existing first existing_first)
+    same_rows (HasSession (codes "session")) (has_row (codes "help") last) last (refl, fit_last, default_has (codes "existing") AsWritten IsTrueText (codes "false") refl first existing_first)
 
 needs_file : (rows : List Row) → check_fault log_leaf rows false ≡ [] → is_given (codes "file") rows ≡ true
 needs_file rows e = go (is_given (codes "file") rows) refl e

@@ -1,5 +1,5 @@
 -- The command line: `timetravel`, with its version and four subcommands. `replay` takes `--batch`,
--- `--closed` and `--why`; `run` takes `--rounds`, too; `session` takes `--log`, and `--existing` beside it; `log` takes a file.
+-- `--closed`, `--why`, `--diff` and `--dry`; `run` takes `--rounds` in place of `--dry`; `session` takes `--log`, and `--existing` beside it; `log` takes a file.
 use Rattle.std.specs.Prelude.{◌≡◌, ℕ, ◌∷◌, [], List, Option, Some, None, Ok, IsSomeAnd, codes, pos}
 use Rattle.std.specs.Prelude.{Bool, if◌then◌else◌, true, false, not, ◌&&◌}
 use Rattle.std.specs.Option.{option_map_or}
@@ -52,6 +52,14 @@ closed = record (new_rule (codes "closed")) { long = Some (codes "closed"); acti
 abbrev pub why : Rule
 why = record (new_rule (codes "why")) { long = Some (codes "why"); action = Some SetTrue }
 
+-- `--diff`, which takes no value
+abbrev pub diff : Rule
+diff = record (new_rule (codes "diff")) { long = Some (codes "diff"); action = Some SetTrue }
+
+-- `--dry`, which takes no value
+abbrev pub dry : Rule
+dry = record (new_rule (codes "dry")) { long = Some (codes "dry"); action = Some SetTrue }
+
 -- `--log FILE`
 abbrev pub log_option : Rule
 log_option = record (new_rule (codes "log")) { long = Some (codes "log"); action = Some Set; value_names = 1 }
@@ -65,10 +73,10 @@ abbrev pub log_argument : Rule
 log_argument = record (new_rule (codes "file")) { action = Some Set; value_names = 1; required = true }
 
 abbrev pub replay : App
-replay = with_rule (with_rule (with_rule (new_app (codes "replay")) batch) closed) why
+replay = with_rule (with_rule (with_rule (with_rule (with_rule (new_app (codes "replay")) batch) closed) why) diff) dry
 
 abbrev pub run : App
-run = with_rule (with_rule (with_rule (with_rule (new_app (codes "run")) batch) rounds) closed) why
+run = with_rule (with_rule (with_rule (with_rule (with_rule (new_app (codes "run")) batch) rounds) closed) why) diff
 
 abbrev pub session : App
 session = with_rule (with_rule (new_app (codes "session")) log_option) existing
@@ -148,3 +156,13 @@ IsClosedOf words given = IsSomeAnd (subcommand_of command_line words) (λ sub.
 unfoldable pub IsWhyOf : List Text → Bool → Type 0
 IsWhyOf words given = IsSomeAnd (subcommand_of command_line words) (λ sub.
     given ≡ is_given (codes "why") sub.1)
+
+-- whether the words give `--diff`
+unfoldable pub IsDiffOf : List Text → Bool → Type 0
+IsDiffOf words given = IsSomeAnd (subcommand_of command_line words) (λ sub.
+    given ≡ is_given (codes "diff") sub.1)
+
+-- whether the words give `--dry`, which `run` doesn't take
+unfoldable pub IsDryOf : List Text → Bool → Type 0
+IsDryOf words given = IsSomeAnd (subcommand_of command_line words) (λ sub.
+    given ≡ is_given (codes "dry") sub.1)

@@ -2,8 +2,8 @@
 ghost use Rattle.std.specs.Prelude.{◌≡◌, IfOk, IfSome, map, string_bytes};
 ghost use Rattle.clap.specs.Words.{FailsBy, app_of, kind_of, rule_of};
 ghost use Rattle.clap.specs.declared.error.kind.ErrorKind.TheVariants.{MissingRequiredArgument};
-ghost use Rattle.tt_cli.specs.CommandLine.{IsCommandOf, IsBatchOf, IsRoundsOf, IsClosedOf, IsWhyOf};
-ghost use Rattle.tt_cli.specs.CommandLine.{batch, rounds, closed, why, replay, run};
+ghost use Rattle.tt_cli.specs.CommandLine.{IsCommandOf, IsBatchOf, IsRoundsOf, IsClosedOf, IsWhyOf, IsDiffOf, IsDryOf};
+ghost use Rattle.tt_cli.specs.CommandLine.{batch, rounds, closed, why, diff, dry, replay, run};
 ghost use Rattle.tt_cli.specs.CommandLine.{log_option, existing, log_argument, session, log};
 ghost use Rattle.tt_cli.specs.CommandLine.{program, command_line, fault_of_words, options_of};
 ghost use Rattle.tt_workload.specs.Options.{AreWithin};
@@ -50,9 +50,10 @@ The repair has one edit, which cancels call 2, the update. An edit is {"cancel":
 repair beside the calls of its member "meanwhile".
 The report goes to standard output: a line for each call, one for the repair and for each reply
 that it has changed, one for each table, and a last line. With --why, one for each slot that the
-repair has redone, with its cause, follows the repair's own. With --closed, one for each table of
-each closed generation that is kept follows the changed replies: its rows at that generation's last
-time.
+repair has redone, with its cause, follows the repair's own. With --diff, one for each row that it
+has changed follows the changed replies: what the row was, and what it is. With --closed, one for
+each table of each closed generation that is kept follows these: its rows at that generation's last
+time. With --dry, `replay` gives the repair up before its switch, and tells what it would change.
 `session` reads no such document, but requests: see `timetravel session --help`. `log` reads the log
 of a session."#;
 
@@ -75,7 +76,8 @@ request, and is answered by one line on standard output before another is waited
 The members of a write or a select are those of a document. A write is answered with the number of
 its slot, and edits name slots: here the repair cancels slot 2, the update, and `changes` then lists
 the answers that would be others now. There are also requests of the kinds delete, do, abort, slots,
-tables, why, which tells why a repair re-executed slots, and forget, which makes room again: see
+tables, why, which tells why a repair re-executed slots, diff, which tells the rows that differ,
+would, which tells what a repair would come to, and forget, which makes room again: see
 docs/SESSION.md.
 The database ends with the input. With --log FILE it is kept in FILE, which is made where there is
 none: a request that changes it is on the disk before it is answered, so the next session on FILE
@@ -122,6 +124,10 @@ pub fn command_of<'a>(alloc: Global, words: &'a [String]) -> Result<Cli<'a>, Err
         IsClosedOf (map string_bytes words.entry.now) options.closed)) }
     ensures why { IfOk result (λ cli. IfSome (options_of cli) (λ options.
         IsWhyOf (map string_bytes words.entry.now) options.why)) }
+    ensures diff { IfOk result (λ cli. IfSome (options_of cli) (λ options.
+        IsDiffOf (map string_bytes words.entry.now) options.diff)) }
+    ensures dry { IfOk result (λ cli. IfSome (options_of cli) (λ options.
+        IsDryOf (map string_bytes words.entry.now) options.dry)) }
     ensures rounds { IfOk result (λ cli. IfSome (options_of cli) (λ options.
         IsRoundsOf (map string_bytes words.entry.now) options.rounds)) }
 {
@@ -154,11 +160,15 @@ pub fn command_of<'a>(alloc: Global, words: &'a [String]) -> Result<Cli<'a>, Err
         .unwrap_or(Options::usual().rounds);
     let closed = given.get_flag("closed");
     let why = given.get_flag("why");
+    let diff = given.get_flag("diff");
+    let dry = given.get_flag("dry");
     let options = Options {
         batch,
         rounds,
         closed,
         why,
+        diff,
+        dry,
     };
     if name == "run" {
         return Ok(Cli::Run(options));
@@ -211,7 +221,9 @@ fn replay<'a>(alloc: Global) -> Result<Command<'a>, AllocError>
         .after_help(DOCUMENT)
         .arg(batch(alloc))?
         .arg(closed(alloc))?
-        .arg(why(alloc))
+        .arg(why(alloc))?
+        .arg(diff(alloc))?
+        .arg(dry(alloc))
 }
 
 /// The subcommand that runs the calls of each worker in a thread of its own.
@@ -224,7 +236,8 @@ fn run<'a>(alloc: Global) -> Result<Command<'a>, AllocError>
         .arg(batch(alloc))?
         .arg(rounds(alloc))?
         .arg(closed(alloc))?
-        .arg(why(alloc))
+        .arg(why(alloc))?
+        .arg(diff(alloc))
 }
 
 /// The subcommand that answers line by line.
@@ -324,4 +337,24 @@ fn why<'a>(alloc: Global) -> Arg<'a>
         .long("why")
         .action(ArgAction::SetTrue)
         .help("Prints, for each slot that the repair has redone, what has caused that")
+}
+
+/// The option `--diff`.
+fn diff<'a>(alloc: Global) -> Arg<'a>
+    ensures { rule_of result ≡ diff }
+{
+    Arg::new(alloc, "diff")
+        .long("diff")
+        .action(ArgAction::SetTrue)
+        .help("Prints each row that the repair has changed, as it was and as it is")
+}
+
+/// The option `--dry`.
+fn dry<'a>(alloc: Global) -> Arg<'a>
+    ensures { rule_of result ≡ dry }
+{
+    Arg::new(alloc, "dry")
+        .long("dry")
+        .action(ArgAction::SetTrue)
+        .help("Gives the repair up before its switch, and prints what it would change")
 }

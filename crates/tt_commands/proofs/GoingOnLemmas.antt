@@ -23,6 +23,7 @@ use Rattle.tt_records.specs.declared.record.What.TheVariants as whats
 use Rattle.tt_records.specs.Changes.{next_change_of}
 use Rattle.tt_requests.specs.declared.request.Command.{Command}
 use Rattle.tt_requests.specs.declared.request.Command.TheVariants as commands
+use Rattle.tt_requests.specs.declared.request.ChangePage.{ChangePage}
 use Rattle.tt_requests.specs.declared.request.Request.{Request}
 use Rattle.tt_requests.specs.declared.request.ToldEdits.{ToldEdits}
 use Rattle.tt_requests.specs.declared.request.Page.{Page}
@@ -43,6 +44,8 @@ use Rattle.tt_commands.specs.Reading.{read, selected_by, previewed_by, latest_if
 use Rattle.tt_commands.specs.ChangeEntries.{changes_answer, next_changes}
 use Rattle.tt_commands.specs.AskedRepairs.{asked_repair, answer_of}
 use Rattle.tt_commands.specs.CauseEntries.{causes_answer}
+use Rattle.tt_commands.specs.DiffEntries.{differences_answer}
+use Rattle.tt_commands.specs.Trials.{trial_answer, trial, would}
 use Rattle.tt_commands.specs.ToldRequests.{forgotten_in, asks_for_forgotten, read_at, read_in, read_as_told, missing_if_idle, unless_missing, begin_as_told}
 use Rattle.tt_requests.specs.ToldEdits.{own_edit}
 use Rattle.tt_commands.specs.Changes.{forgotten_by}
@@ -296,10 +299,10 @@ previewed-on : (session : OpenSession) (page : Page) (right : Result Reply ReadE
 previewed-on session page (Err error) sound b is = cc
 previewed-on session page (Ok reply) sound b is = to session _ b (from_ok _ b is) (same session sound)
 
-next_changes-on : (session : OpenSession) → IsOpenSession session → AnswersOn session (next_changes session)
-next_changes-on session sound b is =
+next_changes-on : (session : OpenSession) (page : ChangePage) → IsOpenSession session → AnswersOn session (next_changes session page)
+next_changes-on session page sound b is =
     let S = state_in session in
-    let told = changes_answer session (next_change_of session.database.catalog S) in
+    let told = changes_answer session page (next_change_of session.database.catalog S) in
     let parts = from_unless (unless_repairing S.phase) told b is in
     to session told b parts.1 (same session sound)
 
@@ -317,6 +320,13 @@ begin-as-told-on : (session : OpenSession) (worker : ℕ) (told : ToldEdits) →
 begin-as-told-on session worker told sound b is =
     let edits = map (own_edit session.numbering) told.edits in
     begin-on session worker edits sound b (missing-none (missing_if_idle session told.edits) (begin session worker edits) b is)
+
+would-on : (session : OpenSession) (told : ToldEdits) → IsOpenSession session → AnswersOn session (would session told)
+would-on session told sound b is =
+    let edits = map (own_edit session.numbering) told.edits in
+    let answered = trial_answer session edits in
+    let parts = from_unless (refusal_in_session session.database (events.Begin edits)) answered b (missing-none (missing_if_idle session told.edits) (trial session edits) b is) in
+    to session answered b parts.1 (same session sound)
 
 read-at-on : (session : OpenSession) (worker : ℕ) (q : Select) (generation : Option ℕ) (at : Option ToldTime) (page : Page) → IsOpenSession session
     → AnswersOn session (read_at session worker q generation at page)
@@ -358,10 +368,12 @@ carried_out-on session worker (commands.Finish told) sound = finish-on session w
 carried_out-on session worker (commands.Abort told) sound = abort-on session worker sound
 carried_out-on session worker commands.Status sound = told session _ sound
 carried_out-on session worker (commands.Slots from to by row) sound = told session _ sound
-carried_out-on session worker commands.Changes sound = told session _ sound
-carried_out-on session worker commands.NextChanges sound = next_changes-on session sound
+carried_out-on session worker (commands.Changes page) sound = told session _ sound
+carried_out-on session worker (commands.NextChanges page) sound = next_changes-on session page sound
 carried_out-on session worker commands.Tables sound = told session _ sound
 carried_out-on session worker (commands.Why generation page) sound = answer-on session (causes_answer session page) (asked_repair session generation) sound
+carried_out-on session worker (commands.Diff generation page) sound = answer-on session (differences_answer session page) (asked_repair session generation) sound
+carried_out-on session worker (commands.Would told) sound = would-on session told sound
 carried_out-on session worker (commands.Forget time) sound = forget-on session time sound
 
 -- whatever a session is asked, it goes on as one

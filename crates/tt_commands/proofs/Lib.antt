@@ -1,5 +1,9 @@
 pub mod CauseLemmas
+pub mod RedoneLemmas
 pub mod ChangeLemmas
+pub mod ChangePageLemmas
+pub mod DiffLemmas
+pub mod TrialLemmas
 pub mod ForgettingLemmas
 pub mod GoingOnLemmas
 pub mod RefusalLemmas

@@ -24,10 +24,11 @@ use Rattle.tt_grammar.specs.Version.{newest_version}
 use Rattle.tt_requests.specs.declared.request.Command.{Command}
 use Rattle.tt_requests.specs.declared.request.Command.TheVariants as commands
 use Rattle.tt_requests.specs.declared.request.Page.{Page}
+use Rattle.tt_requests.specs.declared.request.ToldEdits.{ToldEdits}
 use Rattle.tt_requests.specs.declared.told.ToldTime.{ToldTime}
 use Rattle.tt_requests.specs.declared.told.ToldGeneration.{ToldGeneration}
 use Rattle.tt_requests.specs.Numbers.{Numbering, number_limit, own_time, own_generation}
-use Rattle.tt_requests.specs.Judged.{IsJudged}
+use Rattle.tt_requests.specs.Judged.{AreJudgedEdits, IsJudged}
 use Rattle.tt_requests.proofs.LawProofs.{requests_are_judged}
 use Rattle.tt_answers.specs.declared.answer.Refusal.{Refusal}
 use Rattle.tt_answers.specs.declared.answer.Refusal.TheVariants as refusals
@@ -36,6 +37,7 @@ use Rattle.tt_commands.specs.declared.asked_repair.AskedRepair.{AskedRepair}
 use Rattle.tt_commands.specs.declared.asked_repair.AskedRepair.TheVariants.{UnderWay, Closing}
 use Rattle.tt_commands.specs.AskedRepairs.{closing_in, asked_repair, answer_of}
 use Rattle.tt_commands.specs.CauseEntries.{causes_answer}
+use Rattle.tt_commands.specs.DiffEntries.{differences_answer}
 use Rattle.tt_commands.specs.Session.{OpenSession, state_in}
 use Rattle.tt_commands.specs.Answers.{Answered}
 use Rattle.tt_commands.specs.Room.{refusal_in_session}
@@ -189,30 +191,40 @@ own-judged tables numbering (e ∷ edits) judged =
     own-one tables numbering (Cancel slot) judged = tt
     own-one tables numbering (Replace slot action) judged = judged
 
+-- the beginning of a repair whose edits have been judged
+begun-error : (session : OpenSession) (told : ToldEdits) (error : DbError) (a : Answered) → IsOpenSession session → AreJudgedEdits session.database.catalog told.edits
+    → unless_refused (refusal_in_session session.database (events.Begin (map (own_edit session.numbering) told.edits))) a ≡ Err (refusals.Event error) → answers_lines error ≡ true
+begun-error session told error a sound judged is =
+    let db = session.database in
+    let edits = map (own_edit session.numbering) told.edits in
+    let as_many : length edits ≡ length told.edits = length-map told.edits (own_edit session.numbering) in
+    let few : nat_lt db.limits.edits (length edits) ≡ false = subst (λ n. nat_lt n (length edits) ≡ false) (sym sound.edits) (room-test _ (length edits) (omega (arith, as_many, judged.few))) in
+    begin-error (edits_fault db.catalog edits) _ _ _ (nat_lt db.limits.edits (length edits)) _ _ _ _ error (no_edits_fault db.catalog edits (own-judged db.catalog session.numbering told.edits judged.accepted)) few
+    (refusal-is (refusal_in_session db (events.Begin edits)) a error is)
+
 error-of : (session : OpenSession) (worker : ℕ) (command : Command) (error : DbError) → IsOpenSession session → IsJudged session.database.catalog command
     → carried_out session worker command ≡ Err (refusals.Event error) → answers_lines error ≡ true
 error-of session worker (commands.Write action) error sound judged is =
     let db = session.database in
     write-error (action_fault db.catalog action.writes) _ _ _ _ _ _ error judged (refusal-is (refusal_in_session db (events.Write action)) (written session worker action) error is)
 error-of session worker (commands.Begin told) error sound judged is =
-    let db = session.database in
-    let edits = map (own_edit session.numbering) told.edits in
-    let as_many : length edits ≡ length told.edits = length-map told.edits (own_edit session.numbering) in
-    let few : nat_lt db.limits.edits (length edits) ≡ false = subst (λ n. nat_lt n (length edits) ≡ false) (sym sound.edits) (room-test _ (length edits) (omega (arith, as_many, judged.few))) in
-    begin-error (edits_fault db.catalog edits) _ _ _ (nat_lt db.limits.edits (length edits)) _ _ _ _ error (no_edits_fault db.catalog edits (own-judged db.catalog session.numbering told.edits judged.accepted)) few
-    (refusal-is (refusal_in_session db (events.Begin edits)) _ error (missing-is (missing_if_idle session told.edits) _ error is))
+    begun-error session told error _ sound judged (missing-is (missing_if_idle session told.edits) _ error is)
 error-of session worker (commands.Read q at generation page) error sound judged is = read-as-told-error session worker q generation at page error is
 error-of session worker (commands.Preview q page) error sound judged is = preview-error session page (right_preview_of session.database q) error is
 error-of session worker (commands.Step most told) error sound judged is = idle-error (state_in session).phase _ error is
 error-of session worker (commands.Finish told) error sound judged is = idle-error (state_in session).phase _ error is
 error-of session worker (commands.Abort told) error sound judged is = idle-error (state_in session).phase _ error is
-error-of session worker commands.NextChanges error sound judged is = idle-error (state_in session).phase _ error is
+error-of session worker (commands.NextChanges page) error sound judged is = idle-error (state_in session).phase _ error is
 error-of session worker commands.Status error sound judged is = cc
 error-of session worker (commands.Slots from to by row) error sound judged is = cc
-error-of session worker commands.Changes error sound judged is = cc
+error-of session worker (commands.Changes page) error sound judged is = cc
 error-of session worker commands.Tables error sound judged is = cc
 error-of session worker (commands.Why generation page) error sound judged is =
     repair-error session generation error (asked-is session (causes_answer session page) (asked_repair session generation) error is)
+error-of session worker (commands.Diff generation page) error sound judged is =
+    repair-error session generation error (asked-is session (differences_answer session page) (asked_repair session generation) error is)
+error-of session worker (commands.Would told) error sound judged is =
+    begun-error session told error _ sound judged (missing-is (missing_if_idle session told.edits) _ error is)
 error-of session worker (commands.Forget time) error sound judged is = forget-error (is_repairing (state_in session).phase) _ _ _ _ _ error is
 
 pub other_errors_answer_no_line : OtherErrorsAnswerNoLine

@@ -15,7 +15,7 @@ use Rattle.tt_db.specs.declared.event.Entry.{Entry}
 use Rattle.tt_db.specs.Database.{Database, nth_item, now_in, slot_of, place_of, current_slots}
 use Rattle.tt_db.specs.History.{write_places}
 use Rattle.tt_answers.specs.declared.answer.SlotEntry.{SlotEntry}
-use Rattle.tt_commands.specs.SlotEntries.{Asked, asked_for, action_of, asked_by, asked_in, slot_entry, entry_of_slot, if_asked_for, asked_entry, slot_entries}
+use Rattle.tt_commands.specs.SlotEntries.{Asked, asked_for, action_of, asked_by, asked_in, asked_action, slot_entry, entry_of_slot, if_asked_for, asked_entry, slot_entries}
 
 -- ---- what was asked for
 
@@ -63,6 +63,23 @@ asked-behind front (e ∷ H) k = by e.worker e.event k (λ j. asked-behind (fron
 pub asked-nth : (H : List Entry) (number : ℕ) → nth_item (asked_in H) number ≡ asked_at H (nth_item (write_places 1 H) number)
 asked-nth H zero = refl
 asked-nth H (suc k) = asked-behind [] H k
+
+-- nothing was asked for at a slot that isn't there
+pub no_action_asked : (db : Database) (number : ℕ) (place : Option ℕ) → place ≡ place_of db number → asked_at db.history place ≡ None → None ≡ asked_action db number
+no_action_asked db number place is none =
+    ap (option_map (λ (a : Asked). a.action)) (sym (asked-nth db.history number ∙ ap (asked_at db.history) (sym is) ∙ none))
+
+action-asked : (worker : ℕ) (action : Option Action) → option_map (λ (a : Asked). a.action) (option_map (asked_for worker) action) ≡ action
+action-asked worker None = refl
+action-asked worker (Some action) = refl
+
+-- the action of the entry at its place was asked for at a slot
+pub entry_action_asked : (db : Database) (number p : ℕ) (place : Option ℕ) (e : Entry) → place ≡ place_of db number → place ≡ Some p → nth_item db.history p ≡ Some e
+    → action_of e.event ≡ asked_action db number
+entry_action_asked db number p place e is there entry =
+    let asked : nth_item (asked_in db.history) number ≡ option_map (asked_for e.worker) (action_of e.event) =
+    asked-nth db.history number ∙ ap (asked_at db.history) (sym is ∙ there) ∙ ap (option_and_then asked_of) entry in
+    sym (ap (option_map (λ (a : Asked). a.action)) asked ∙ action-asked e.worker (action_of e.event))
 
 no_slot_entry : (number : ℕ) (slot : Option Slot) → None ≡ option_and_then (λ s. option_map (slot_entry number s) None) slot
 no_slot_entry number None = refl

@@ -1,5 +1,6 @@
 -- The repair that a request asks about: the one under way, or one that closed a generation.
-use Rattle.std.specs.Prelude.{ℕ, ◌==◌, ◌||◌, is_none, Option, None, Some, Result, Ok, Err, if◌then◌else◌}
+use Rattle.std.specs.Prelude.{ℕ, ◌+◌, ◌-◌, ◌==◌, ◌||◌, is_some, is_none, find, Option, None, Some, Result, Ok, Err, if◌then◌else◌}
+use Rattle.std.specs.List.{range_with_len}
 use Rattle.tt_causes.specs.Causes.{Cause}
 use Rattle.tt_generations.specs.TwoGenerations.{is_repairing, done_of}
 use Rattle.tt_db.specs.declared.errors.ReadError.TheVariants as read_errors
@@ -43,6 +44,10 @@ done_by db (Closing number) = last_time_in (state_of db) number
 abbrev pub cause_by : Database → AskedRepair → ℕ → Option Cause
 cause_by db UnderWay slot = cause_of db slot
 cause_by db (Closing number) slot = cause_in_of db number slot
+
+-- the first slot behind one that a repair re-executed
+abbrev pub next_redone_by : Database → AskedRepair → ℕ → Option ℕ
+next_redone_by db repair before = find (λ slot. is_some (cause_by db repair slot)) (range_with_len (before + 1) (done_by db repair - before))
 
 -- the session stays, and tells what is asked about something, unless that isn't there
 abbrev pub answer_of : {X : Type 0} → OpenSession → (X → Answer) → Result X Refusal → Result Answered Refusal

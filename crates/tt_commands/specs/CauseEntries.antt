@@ -41,12 +41,12 @@ is_full None count = false
 is_full (Some most) count = count == most
 
 -- the first of some entries, as many as are asked for; all of them, where no number is asked for
-abbrev pub first_entries : Option ℕ → List CauseEntry → List CauseEntry
+abbrev pub first_entries : {X : Type 0} → Option ℕ → List X → List X
 first_entries None entries = entries
 first_entries (Some most) entries = take most entries
 
 -- whether more entries follow than are asked for
-abbrev pub more_follow : Option ℕ → List CauseEntry → Bool
+abbrev pub more_follow : {X : Type 0} → Option ℕ → List X → Bool
 more_follow None entries = false
 more_follow (Some most) entries = nat_lt most (length entries)
 

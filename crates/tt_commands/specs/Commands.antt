@@ -26,6 +26,8 @@ use Rattle.tt_commands.specs.Forgetting.{forget}
 use Rattle.tt_commands.specs.SlotEntries.{slot_entries}
 use Rattle.tt_commands.specs.ChangeEntries.{changes, next_changes}
 use Rattle.tt_commands.specs.CauseEntries.{why}
+use Rattle.tt_commands.specs.DiffEntries.{diff}
+use Rattle.tt_commands.specs.Trials.{would}
 
 -- an action takes the next slot: its replies are told, and recorded
 abbrev pub written : OpenSession → ℕ → Action → Answered
@@ -75,10 +77,12 @@ carried_out session worker (commands.Finish told) = finish session worker
 carried_out session worker (commands.Abort told) = abort session worker
 carried_out session worker commands.Status = status session
 carried_out session worker (commands.Slots from to by row) = slots session from to by row
-carried_out session worker commands.Changes = changes session
-carried_out session worker commands.NextChanges = next_changes session
+carried_out session worker (commands.Changes page) = changes session page
+carried_out session worker (commands.NextChanges page) = next_changes session page
 carried_out session worker commands.Tables = declared_tables session
 carried_out session worker (commands.Why generation page) = why session generation page
+carried_out session worker (commands.Diff generation page) = diff session generation page
+carried_out session worker (commands.Would edits) = would session edits
 carried_out session worker (commands.Forget time) = forget session time
 
 -- the current time, if a request expects another one

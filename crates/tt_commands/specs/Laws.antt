@@ -7,6 +7,7 @@ use Rattle.tt_db.specs.declared.errors.DbError.{DbError}
 use Rattle.tt_db.specs.declared.errors.DbError.TheVariants as errors
 use Rattle.tt_db.specs.Database.{now_in}
 use Rattle.tt_grammar.specs.declared.fault.DocFault.{DocFault}
+use Rattle.tt_requests.specs.declared.request.ChangePage.{ChangePage}
 use Rattle.tt_requests.specs.declared.request.Request.{Request}
 use Rattle.tt_answers.specs.declared.answer.Refusal.TheVariants as refusals
 use Rattle.tt_commands.specs.declared.change_entries.Moment.TheVariants.{Now, Next}
@@ -34,8 +35,8 @@ OtherErrorsAnswerNoLine = (session : OpenSession) (value : Result Data DocFault)
 abbrev pub switched : OpenSession → ℕ → OpenSession
 switched session worker = with_database session (with_event session.database worker events.Switch)
 
--- once a repair has done as many slots as there are, the next changes are the changes right after the switch
+-- once a repair has done as many slots as there are, the next changes are the changes right after the switch, whatever page is asked for
 abbrev pub NextChangesEndAsChanges : Type 0
-NextChangesEndAsChanges = (session : OpenSession) (worker : ℕ) →
+NextChangesEndAsChanges = (session : OpenSession) (worker : ℕ) (page : ChangePage) →
     is_repairing (state_in session).phase ≡ true → done_of (state_in session).phase ≡ now_in session.database →
-    (changes_answer_at Next session).answer ≡ (changes_answer_at Now (switched session worker)).answer
+    (changes_answer_at Next session page).answer ≡ (changes_answer_at Now (switched session worker) page).answer

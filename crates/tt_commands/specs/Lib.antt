@@ -15,6 +15,9 @@ pub mod AskedRepairs
 pub mod CauseEntries
 pub mod Moments
 pub mod ChangeEntries
+pub mod DiffEntries
+pub mod DiffPages
+pub mod Trials
 pub mod Commands
 pub mod Grounds
 pub mod ForgetRequests

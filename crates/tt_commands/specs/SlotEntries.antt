@@ -37,6 +37,10 @@ asked_by worker event = option_map (asked_for worker) (action_of event)
 abbrev pub asked_in : List Entry → List Asked
 asked_in history = filter_map (λ e. asked_by e.worker e.event) history
 
+-- the action that took a slot, as it was asked for, if the slot is there
+abbrev pub asked_action : Database → ℕ → Option Action
+asked_action db number = option_map (λ (asked : Asked). asked.action) (nth_item (asked_in db.history) number)
+
 -- an action that was asked for, where its slot has another one now, or none
 abbrev pub if_replaced : Action → Option Action → Option Action
 if_replaced asked None = Some asked

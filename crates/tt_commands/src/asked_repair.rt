@@ -1,14 +1,19 @@
 //! The repair that a request asks about: the one under way, or one that closed a generation.
-ghost use Rattle.std.specs.Prelude.{◌≡◌, option_map};
+ghost use Rattle.std.specs.Prelude.{◌≡◌, Ok, map, option_map, IfOk};
 ghost use Rattle.tt_generations.specs.SlotCauses.{cause_told};
-ghost use Rattle.tt_commands.specs.AskedRepairs.{closing, asked_repair, done_by, cause_by};
+ghost use Rattle.tt_generations.specs.RowChanges.{change_told};
+ghost use Rattle.tt_db.specs.Differences.{ArePage};
+ghost use Rattle.tt_commands.specs.AskedRepairs.{closing, asked_repair, done_by, cause_by, next_redone_by};
+ghost use Rattle.tt_commands.specs.DiffEntries.{differences_by};
 
 use crate::open_session::OpenSession;
 use crate::reading::last_time_in;
 use crate::told_requests::no_generation;
+use std::alloc::AllocError;
 use tt_answers::Refusal;
-use tt_db::{Cause, Db, ReadError};
+use tt_db::{Cause, Db, FirstChanges, ReadError, RowChange};
 use tt_requests::ToldGeneration;
+use tt_values::Items;
 
 /// A repair that a request asks about.
 #[derive(Clone, Copy)]
@@ -67,5 +72,60 @@ impl AskedRepair {
             AskedRepair::UnderWay => db.cause(number),
             AskedRepair::Closing(generation) => db.cause_in(generation, number),
         }
+    }
+
+    /// The number of the first slot behind one that it re-executed. Takes no memory, and time
+    /// logarithmic in the number of re-executed slots.
+    pub(crate) fn next_redone(self, db: &Db, before: u64) -> Option<u64>
+        ensures { result ≡ next_redone_by db.now self before }
+    {
+        // For the proof: no more slots are done than there are.
+        let _ = db.slots_left();
+        match self {
+            AskedRepair::UnderWay => db.next_redone(before),
+            AskedRepair::Closing(generation) => db.next_redone_in(generation, before),
+        }
+    }
+
+    /// The rows of a table that differ between the generations at the last slot that it has done,
+    /// by rising key. The table and the repair have to be there.
+    pub(crate) fn diff(self, db: &Db, table: u16) -> Result<Items<RowChange>, AllocError>
+        ensures { IfOk result (λ changes.
+            map change_told changes ≡ differences_by db.now self table) }
+    {
+        match self {
+            AskedRepair::UnderWay => unrefused(db.diff(table)),
+            AskedRepair::Closing(generation) => unrefused(db.diff_in(generation, table)),
+        }
+    }
+
+    /// Of those rows, the ones with greater keys than `after`, if that is given: the first `most`
+    /// of them, and whether more follow.
+    pub(crate) fn diff_page(
+        self,
+        db: &Db,
+        table: u16,
+        after: Option<i64>,
+        most: u32,
+    ) -> Result<FirstChanges, AllocError>
+        ensures { IfOk result (λ page.
+            ArePage after most (differences_by db.now self table) page) }
+    {
+        match self {
+            AskedRepair::UnderWay => unrefused(db.diff_page(table, after, most)),
+            AskedRepair::Closing(generation) => {
+                unrefused(db.diff_page_in(generation, table, after, most))
+            }
+        }
+    }
+}
+
+/// What a read returned that isn't refused: where it returned nothing, there was no memory.
+fn unrefused<T: Drop>(read: Result<T, ReadError>) -> Result<T, AllocError>
+    ensures { IfOk result (λ value. read ≡ Ok value) }
+{
+    match read {
+        Ok(value) => Ok(value),
+        Err(_) => Err(AllocError),
     }
 }

@@ -15,7 +15,7 @@ use tt_values::Items;
 
 /// The last slot before those that are asked for, by the numbers of the database. Slots up to the
 /// horizon aren't told.
-fn slot_before(numbering: Numbering, after: Option<ToldTime>) -> u64
+pub(crate) fn slot_before(numbering: Numbering, after: Option<ToldTime>) -> u64
     ensures { result ≡ slot_before numbering after }
 {
     let ground_slots = numbering.ground_slots();
@@ -25,8 +25,8 @@ fn slot_before(numbering: Numbering, after: Option<ToldTime>) -> u64
     }
 }
 
-/// Whether so many slots are as many as are asked for.
-fn is_full(most: Option<u32>, count: usize) -> bool
+/// Whether so many entries are as many as are asked for.
+pub(crate) fn is_full(most: Option<u32>, count: usize) -> bool
     ensures { result ≡ is_full most count }
 {
     match most {
@@ -37,15 +37,15 @@ fn is_full(most: Option<u32>, count: usize) -> bool
 
 /// The re-executed slots of a page.
 #[derive(Drop)]
-struct FirstCauses {
-    entries: Vec<CauseEntry>,
+pub(crate) struct FirstCauses {
+    pub(crate) entries: Vec<CauseEntry>,
     /// Whether more follow.
-    more: bool,
+    pub(crate) more: bool,
 }
 
 /// The re-executed slots behind one, by the numbers of the database: the first ones, at most this
 /// many, where that is given. Takes memory for them alone.
-fn first_causes(
+pub(crate) fn first_causes(
     alloc: Global,
     db: &Db,
     repair: AskedRepair,
@@ -58,18 +58,20 @@ fn first_causes(
         ≡ more_follow most (cause_entries db.now repair before)) }
 {
     let mut entries = Vec::new(alloc);
-    for earlier in before..repair.done(db) {
-        let slot = earlier + 1;
-        if let Some(cause) = repair.cause(db, slot) {
-            if is_full(most, entries.len()) {
-                return Ok(FirstCauses {
-                    entries,
-                    more: true,
-                });
-            }
-            let cause = SlotCause::of(cause)?;
-            entries.push(CauseEntry { slot, cause })?;
+    let mut told = before;
+    while let Some(slot) = repair.next_redone(db, told) {
+        if is_full(most, entries.len()) {
+            return Ok(FirstCauses {
+                entries,
+                more: true,
+            });
         }
+        let Some(cause) = repair.cause(db, slot) else {
+            unreachable!()
+        };
+        let cause = SlotCause::of(cause)?;
+        entries.push(CauseEntry { slot, cause })?;
+        told = slot;
     }
     Ok(FirstCauses {
         entries,

@@ -7,6 +7,7 @@ ghost use Rattle.tt_requests.specs.Asked.{is_read_only};
 
 use crate::cause_entries::why;
 use crate::change_entries::{changes, next_changes};
+use crate::diff_entries::diff;
 use crate::failure::Failure;
 use crate::forgetting::forget;
 use crate::open_session::OpenSession;
@@ -14,6 +15,7 @@ use crate::reading::preview;
 use crate::repairing::{abort, finish, other_worker, status_of, step};
 use crate::response::Response;
 use crate::told_requests::{begin_as_told, read_as_told, slots};
+use crate::trial::would;
 use crate::writing::write;
 use tt_answers::{Answer, Refusal};
 use tt_requests::{Command, Numbering, Request, ToldTime};
@@ -68,10 +70,12 @@ fn carried_out(
             worker: by,
             row,
         } => slots(session, from, to, by, row),
-        Command::Changes => changes(session),
-        Command::NextChanges => next_changes(session),
+        Command::Changes(page) => changes(session, page),
+        Command::NextChanges(page) => next_changes(session, page),
         Command::Tables => declared_tables(session),
         Command::Why { generation, page } => why(session, generation, page),
+        Command::Diff { generation, page } => diff(session, generation, page),
+        Command::Would(edits) => would(session, &edits),
         Command::Forget(time) => forget(session, time),
     }
 }

@@ -5,6 +5,7 @@ mod asked_repair;
 mod cause_entries;
 mod change_entries;
 mod commands;
+mod diff_entries;
 mod failure;
 mod forgetting;
 pub mod laws;
@@ -19,6 +20,7 @@ mod session_change;
 mod slot_entries;
 mod terms;
 mod told_requests;
+mod trial;
 mod writing;
 
 pub use commands::outcome_of_request;

@@ -1,5 +1,6 @@
 //! The records of the last calls.
-ghost use Rattle.std.specs.Prelude.{◌≡◌, ◌≤◌, ◌++◌, ◌∷◌, [], Some, None, if◌then◌else◌, OnOk, OnErr};
+ghost use Rattle.std.specs.Prelude.{◌≡◌, ◌≤◌, ◌++◌, ◌∷◌, [], length, slice_get, Some, None, if◌then◌else◌, OnOk, OnErr};
+ghost use Rattle.std.specs.Option.{option_copied};
 ghost use Rattle.tt_db.specs.State.{last_items};
 ghost use Rattle.tt_commands.specs.Changes.{moved_what, moved_record, records_behind};
 ghost use Rattle.tt_commands.specs.ChangeEntries.{first_call};
@@ -81,11 +82,18 @@ impl Records {
         }
     }
 
-    /// The records as two lists, one after the other.
-    pub(crate) fn parts(&self) -> (&[Record], &[Record])
-        ensures { result.0.now ++ result.1.now ≡ self.now }
+    /// How many records there are.
+    pub(crate) fn len(&self) -> usize
+        ensures { result ≡ length self.now }
     {
-        self.queue.as_slices()
+        self.queue.len()
+    }
+
+    /// The record at an index, from 0, if it is there.
+    pub(crate) fn get(&self, index: usize) -> Option<&Record>
+        ensures { option_copied result ≡ slice_get self.now index }
+    {
+        self.queue.get(index)
     }
 
     /// The call of the first record, or this call where there is none.

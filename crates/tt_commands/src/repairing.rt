@@ -15,7 +15,7 @@ use tt_db::{Db, DbError, Edit, Event, Progress, SwitchOutcome};
 use tt_values::Items;
 
 /// How far the repair of a database is: nothing is done where none is under way.
-fn progress_now(db: &Db) -> Progress
+pub(crate) fn progress_now(db: &Db) -> Progress
     ensures { result ≡ progress_now db.now }
 {
     match db.repair() {

@@ -1,10 +1,10 @@
 //! Room for the end of a repair.
-ghost use Rattle.std.specs.Prelude.{◌≡◌, ◌-◌, true, Some, length};
+ghost use Rattle.std.specs.Prelude.{◌≡◌, ◌-◌, true, Some, List, length};
 ghost use Rattle.tt_db.specs.State.{next_state};
 ghost use Rattle.tt_db.specs.Database.{state_of};
 ghost use Rattle.tt_commands.specs.Room.{has_no_room_to_end, refusal_in_session};
 
-use tt_db::{Db, DbError, Event};
+use tt_db::{Db, DbError, Edit, Event};
 use tt_values::Action;
 
 /// Whether an event would leave no room for the end of a repair. Takes no memory.
@@ -16,7 +16,7 @@ pub(crate) fn leaves_no_room(db: &Db, event: &Event) -> bool
     // behind the entry of the event.
     match event {
         Event::Write(_) => action_leaves_no_room(db),
-        Event::Begin(_) => room_behind_entry(db) <= db.now(),
+        Event::Begin(_) => beginning_leaves_no_room(db),
         Event::Step => {
             db.is_repairing() && room_behind_entry(db) <= db.slots_left().saturating_sub(1)
         }
@@ -31,6 +31,14 @@ pub(crate) fn action_leaves_no_room(db: &Db) -> bool
         db.now.limits (next_state db.now.limits (state_of db.now) (Event.Write action)) }
 {
     db.is_repairing() && room_behind_entry(db).saturating_sub(1) <= db.slots_left()
+}
+
+/// Whether each beginning of a repair would leave no room for its end. Takes no memory.
+pub(crate) fn beginning_leaves_no_room(db: &Db) -> bool
+    ensures { (edits : List Edit) → result ≡ has_no_room_to_end
+        db.now.limits (next_state db.now.limits (state_of db.now) (Event.Begin edits)) }
+{
+    room_behind_entry(db) <= db.now()
 }
 
 /// How many entries more the history may have behind the next one.

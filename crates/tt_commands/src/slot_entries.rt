@@ -3,7 +3,7 @@ ghost use Rattle.std.specs.Prelude.{◌≡◌, IfOk};
 ghost use Rattle.std.specs.Option.{option_copied};
 ghost use Rattle.tt_commands.specs.Answers.{Becomes};
 ghost use Rattle.tt_commands.specs.Commands.{slots_between};
-ghost use Rattle.tt_commands.specs.SlotEntries.{action_of, if_replaced, entry_of_slot, is_asked_for, is_unchanged, changes_row, asked_entry, slot_entries};
+ghost use Rattle.tt_commands.specs.SlotEntries.{action_of, asked_action, if_replaced, entry_of_slot, is_asked_for, is_unchanged, changes_row, asked_entry, slot_entries};
 
 use crate::failure::Failure;
 use crate::open_session::OpenSession;
@@ -36,6 +36,19 @@ fn action_of(entry: &Entry) -> Option<&Action>
     }
 }
 
+/// The action that took the slot of a number, as it was asked for, if the slot is there.
+pub(crate) fn asked_action(db: &Db, number: u64) -> Option<&Action>
+    ensures { option_copied result ≡ asked_action db.now number }
+{
+    let Some(place) = db.place_of(number) else {
+        return None;
+    };
+    let Some(entry) = db.entry(place) else {
+        return None;
+    };
+    action_of(entry)
+}
+
 /// The slot of a number, if it is there.
 fn entry_of_slot(db: &Db, number: u64) -> Result<Option<SlotEntry>, AllocError>
     ensures { IfOk result (λ entry. entry ≡ entry_of_slot db.now number) }
@@ -63,7 +76,7 @@ fn entry_of_slot(db: &Db, number: u64) -> Result<Option<SlotEntry>, AllocError>
 }
 
 /// Whether a worker is the one that is asked for, if one is.
-fn is_asked_for(wanted: Option<u32>, worker: u32) -> bool
+pub(crate) fn is_asked_for(wanted: Option<u32>, worker: u32) -> bool
     ensures { result ≡ is_asked_for wanted worker }
 {
     match wanted {

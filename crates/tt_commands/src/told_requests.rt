@@ -133,7 +133,7 @@ pub(crate) fn slots(
 }
 
 /// The slot that isn't there, if no repair is under way, which is refused before that.
-fn missing_if_idle(session: &OpenSession, edits: &[Edit]) -> Option<ToldTime>
+pub(crate) fn missing_if_idle(session: &OpenSession, edits: &[Edit]) -> Option<ToldTime>
     ensures { result ≡ missing_if_idle session.now edits.now }
 {
     let db = session.db();

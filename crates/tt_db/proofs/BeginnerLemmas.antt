@@ -1,5 +1,5 @@
 -- Who began the last repair of a history, with further entries.
-use Rattle.std.proofs.Common.{◌≡◌, ℕ, zero, suc, Bool, true, false, List, [], ◌∷◌, ◌++◌, fold, replicate, Option, None, Some, if◌then◌else◌, refl, sym, ap, ◌∙◌}
+use Rattle.std.proofs.Common.{◌≡◌, ℕ, zero, suc, Bool, List, [], ◌∷◌, ◌++◌, fold, replicate, Option, None, Some, if◌then◌else◌, refl, ◌∙◌}
 use Rattle.std.proofs.lemmas.List.Sums.{fold-append}
 use Rattle.tt_generations.specs.TwoGenerations.{Phase, Idle, Repairing, is_repairing, phase_after_step}
 use Rattle.tt_db.specs.declared.event.Event.{Event}

@@ -2,11 +2,12 @@
 use Rattle.tt_values.specs.Content.{Content}
 use Rattle.tt_values.specs.RowWrites.{content_of}
 use Rattle.tt_generations.specs.TwoGenerations.{done_of}
-use Rattle.tt_db.specs.Laws.{IsKeyed, RowsHaveTheirKeys, LastGenerationsAreKept, EachSlotHasItsPlace, RepairsKeepTheirWorker}
+use Rattle.tt_db.specs.Laws.{IsKeyed, RowsHaveTheirKeys, LastGenerationsAreKept, EachSlotHasItsPlace, RepairsKeepTheirWorker, SwitchesKeepWhatIsTold}
 use Rattle.tt_db.specs.State.{start, after, current_at, next_at}
 use Rattle.tt_db.proofs.HistoryLemmas.{slots-places}
 use Rattle.tt_db.proofs.BeginnerLemmas.{repair_worker-entry}
 use Rattle.tt_db.proofs.ClosedLemmas.{KeepsLastGenerations-after, KeepsLastGenerations-start}
+use Rattle.tt_db.proofs.SwitchLemmas.{causes-kept, differences-kept}
 use Rattle.tt_db.proofs.KeyLemmas.{IsKeyedContent, IsKeyedContent-legal, IsKeyedContent-in, IsKeyedContent-next, AllKeyed-row_at}
 
 pub rows_have_their_keys : RowsHaveTheirKeys
@@ -27,3 +28,6 @@ each_slot_has_its_place limits history = slots-places limits history
 
 pub repairs_keep_their_worker : RepairsKeepTheirWorker
 repairs_keep_their_worker db e = repair_worker-entry db e
+
+pub switches_keep_what_is_told : SwitchesKeepWhatIsTold
+switches_keep_what_is_told = record { causes = causes-kept; differences = differences-kept }

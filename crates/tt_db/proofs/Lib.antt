@@ -7,7 +7,9 @@ pub mod HistoryLemmas
 pub mod BeginnerLemmas
 pub mod CurrentLemmas
 pub mod StepsLemmas
+pub mod TrialLemmas
 pub mod KeyLemmas
 pub mod PageLemmas
+pub mod SwitchLemmas
 pub mod LawProofs
 mod worked_rows

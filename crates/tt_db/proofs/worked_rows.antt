@@ -3,3 +3,4 @@ mod Repairs
 mod ClosedGenerations
 mod Causes
 mod Differences
+mod Trials

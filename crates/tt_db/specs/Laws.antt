@@ -1,17 +1,20 @@
 -- What holds of every legal history.
-use Rattle.std.specs.Prelude.{◌≡◌, ◌≤◌, ℕ, suc, ℤ, List, [], ◌∷◌, length, Option, None, Some}
+use Rattle.std.specs.Prelude.{◌≡◌, ◌≤◌, ◌<◌, ℕ, suc, ℤ, List, [], ◌∷◌, length, Option, None, Some}
 use Rattle.tt_values.specs.declared.row.Row.{Row}
 use Rattle.tt_values.specs.Row.{first_int}
 use Rattle.tt_values.specs.Tables.{Tables, IsCatalog}
 use Rattle.tt_values.specs.Content.{Content, row_at}
 use Rattle.tt_values.specs.RowWrites.{Slots, content_of}
-use Rattle.tt_generations.specs.TwoGenerations.{done_of}
+use Rattle.tt_generations.specs.TwoGenerations.{Repairing, done_of}
+use Rattle.tt_repair_laws.specs.declared.edit.Edit.{Edit}
 use Rattle.tt_db.specs.declared.limits.Limits.{Limits}
 use Rattle.tt_db.specs.declared.event.Event.{Event}
 use Rattle.tt_db.specs.declared.event.Event.TheVariants as events
 use Rattle.tt_db.specs.declared.event.Entry.{Entry}
 use Rattle.tt_db.specs.History.{write_places}
-use Rattle.tt_db.specs.Database.{Database, with_entry, repair_worker_of}
+use Rattle.tt_db.specs.Database.{Database, state_of, current_slots, with_entry, repair_worker_of}
+use Rattle.tt_db.specs.Causes.{cause_of, cause_in_of}
+use Rattle.tt_db.specs.Differences.{right_diff, right_diff_in}
 use Rattle.tt_db.specs.State.{State, ClosedGeneration, after, now_of, current_at, next_at, slots_in, oldest_of, IsLegal}
 
 -- each row of a content begins with an Int, which is the key that it is stored under
@@ -56,3 +59,18 @@ repair_worker_by before worker events.Abort = None
 -- a repair is of the worker that began it, until it is switched to or given up
 abbrev pub RepairsKeepTheirWorker : Type 0
 RepairsKeepTheirWorker = (db : Database) (e : Entry) → repair_worker_of (with_entry db e) ≡ repair_worker_by (repair_worker_of db) e.worker e.event
+
+-- a database of which the repair under way has done all slots
+abbrev pub HasDoneAll : Database → Type 0
+HasDoneAll db = (E : List Edit) × ((state_of db).phase ≡ Repairing E (length (current_slots db)))
+
+-- the database after a switch that a worker asked for
+abbrev pub switched : Database → ℕ → Database
+switched db worker = with_entry db (record { worker = worker; event = events.Switch })
+
+-- where closed generations are kept, a repair that has done all slots is told of after its switch as it was just before it: why it re-executed its slots, and which rows differ
+pub record SwitchesKeepWhatIsTold : Type 0 where
+  pub causes : (db : Database) (worker number : ℕ) → 0 < db.limits.keep → HasDoneAll db
+      → cause_in_of (switched db worker) (state_of db).generation number ≡ cause_of db number
+  pub differences : (db : Database) (worker table : ℕ) → 0 < db.limits.keep → HasDoneAll db
+      → right_diff_in (switched db worker) (state_of db).generation table ≡ right_diff db table

@@ -7,6 +7,7 @@ pub mod History
 pub mod Database
 pub mod Causes
 pub mod Steps
+pub mod Trials
 pub mod Transition
 pub mod Laws
 pub mod Pages

@@ -15,6 +15,7 @@ mod differences;
 mod kinds;
 mod page;
 mod steps;
+mod trial;
 
 use crate::closed::{ClosedGeneration, closed_of, oldest_of, with_closed};
 use crate::errors::{DbError, ReadError};

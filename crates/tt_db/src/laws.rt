@@ -1,6 +1,6 @@
 //! Laws of the definitions that the contracts of this crate use. Each is the contract of a
 //! function with an empty body.
-ghost use Rattle.tt_db.specs.Laws.{RowsHaveTheirKeys, LastGenerationsAreKept, EachSlotHasItsPlace, RepairsKeepTheirWorker};
+ghost use Rattle.tt_db.specs.Laws.{RowsHaveTheirKeys, LastGenerationsAreKept, EachSlotHasItsPlace, RepairsKeepTheirWorker, SwitchesKeepWhatIsTold};
 
 /// After a legal history each row begins with an Int, which is the key that it is stored under: in
 /// each generation that can be read at every time, and in the next one at the last slot that the
@@ -24,4 +24,10 @@ pub fn each_slot_has_its_place()
 /// its steps and for writes meanwhile.
 pub fn repairs_keep_their_worker()
     ensures { RepairsKeepTheirWorker }
+{}
+
+/// Where closed generations are kept, a repair that has done all slots is told of after its switch
+/// as it was just before it: why it re-executed its slots, and which rows differ.
+pub fn switches_keep_what_is_told()
+    ensures { SwitchesKeepWhatIsTold }
 {}

@@ -25,9 +25,9 @@ use Rattle.tt_versions.specs.Sides.{LineagesByKey, side_of, current_of, next_of,
 use Rattle.tt_parts.specs.Dirty.{NumbersAgree}
 use Rattle.tt_repair_laws.specs.declared.edit.Edit.{Edit}
 use Rattle.tt_repair_laws.specs.Edits.{slot_number, edited_slots, HasNoFault}
-use Rattle.tt_repair_laws.specs.Due.{content_after, is_due, reexecuted_count, slot_rows_touched}
+use Rattle.tt_repair_laws.specs.Due.{content_after, is_due, slot_rows_touched}
 use Rattle.tt_repair_laws.specs.NextSide.{current_side}
-use Rattle.tt_repair_laws.proofs.LawProofs.{edited_slots_are_as_many, next_side_shows_edited_slots, no_slot_is_reexecuted_at_first, due_slots_are_reexecuted, undue_slots_are_not_reexecuted}
+use Rattle.tt_repair_laws.proofs.LawProofs.{edited_slots_are_as_many, next_side_shows_edited_slots}
 use Rattle.tt_generations.specs.declared.slot.KeptSlot.{KeptSlot}
 use Rattle.tt_generations.specs.declared.repair.Repair.{Repair}
 use Rattle.tt_generations.specs.Limits.{max_slots}
@@ -181,14 +181,6 @@ AreGenerations-repair tables kept versions E r are named accepted new = record {
 
 -- ---- a step
 
-reexecuted-within : (tables : Tables) (W : Slots) (E : List Edit) (n : ℕ) → reexecuted_count tables W E n ≤ n
-reexecuted-within tables W E zero = omega (arith, no_slot_is_reexecuted_at_first tables W E)
-reexecuted-within tables W E (suc n) = by (is_due tables W E n) refl (reexecuted-within tables W E n)
-  where
-    by : (b : Bool) → is_due tables W E n ≡ b → reexecuted_count tables W E n ≤ n → reexecuted_count tables W E (suc n) ≤ suc n
-    by true due few = omega (arith, due_slots_are_reexecuted tables W E n due, few)
-    by false due few = omega (arith, undue_slots_are_not_reexecuted tables W E n due, few)
-
 keys-if_any : (tables : Tables) (s : Option Action) → IsCatalog tables → IsAccepted tables s → HasKeysIfAny s
 keys-if_any tables None catalog is = tt
 keys-if_any tables (Some action) catalog is = accepted_actions_have_keys tables action.writes catalog is
@@ -225,7 +217,6 @@ pub record IsAtSlot (tables : Tables) (kept : List KeptSlot) (versions : TablesB
   pub is : k ≡ kept_slot (actions_of kept) r.done
   pub left : r.done < length (actions_of kept)
   pub room : r.done < max_slots
-  pub few : r.reexecuted ≤ r.done
   pub there : r.done < length r.slots
   pub catalog : r.dirty.catalog ≡ tables
   pub numbers : NumbersAgree r.dirty.dirty r.dirty.since
@@ -250,7 +241,6 @@ IsAtSlot-next tables kept versions r k are found inside =
       is = is;
       left = left;
       room = omega (arith, inside, are.few);
-      few = omega (arith, repair.reexecuted, reexecuted-within tables W r.edits r.done);
       there = omega (arith, left, repair.slots.as_many);
       catalog = repair.catalog;
       numbers = numbers-repair tables W r repair;

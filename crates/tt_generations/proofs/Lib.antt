@@ -15,6 +15,7 @@ pub mod RepairLemmas
 pub mod KeptSlotsLemmas
 pub mod SlotsLemmas
 pub mod BothSidesLemmas
+pub mod ReexecutedSlotsLemmas
 pub mod RepairStepsLemmas
 pub mod GenerationsLemmas
 pub mod RunLemmas

@@ -32,11 +32,13 @@ use Rattle.tt_generations.specs.Reexecution.{AreReexecuted, ShowsContentBefore, 
 use Rattle.tt_generations.specs.KeptSlots.{kept_slot, AreKept, IsAccepted, AreAccepted}
 use Rattle.tt_generations.specs.EditsByNumber.{HasEdits}
 use Rattle.tt_generations.specs.Repair.{is_kept_affected, is_kept_due, next_replacement, replaced_by, next_action, as_action, HasReexecutedSlot, HasDoneDueSlot}
+use Rattle.tt_generations.specs.ReexecutedSlots.{numbers_of}
 use Rattle.tt_generations.specs.TwoGenerations.{NamesSlot, Repairing}
 use Rattle.tt_generations.specs.Generations.{next_kept_slot, IsRepair, HaveBothSides}
 use Rattle.tt_generations.proofs.FewRowsLemmas.{length-after_action}
 use Rattle.tt_generations.proofs.NumbersLemmas.{same_table, GotDirtyAt-same}
 use Rattle.tt_generations.proofs.KeptSlotsLemmas.{AreKept-same, AreKept-push, AreKept-set, kept_slot-is, next_kept_slot-append, next_kept_slot-last, next_kept_slot-first, next_kept_slot-other, next_kept_slot-done, next_kept_slot-left, kept_slot-undue, named-append, AreAccepted-at, AreAccepted-edited}
+use Rattle.tt_generations.proofs.ReexecutedSlotsLemmas.{numbers-same, numbers-stay, numbers-more}
 use Rattle.tt_generations.proofs.BothSidesLemmas.{HaveBothSides-due, ShowsContentBefore-next}
 
 next_number : (n : ℕ) → n + 1 ≡ suc n
@@ -51,7 +53,8 @@ IsRepair-slot tables W s r after k is last new = subst (IsRepair tables V) (sym 
   accepted = is.accepted;
   replacements = is.replacements;
   done = omega (arith, is.done, many);
-  reexecuted = is.reexecuted ∙ sym same.reexecuted;
+  reexecuted = is.reexecuted ∙ numbers-same (is_due tables W E) (is_due tables V E) n (λ i h. sym (same.due i h));
+  count = is.count ∙ sym same.reexecuted;
   catalog = is.catalog;
   dirty = subst (SameMembers r.dirty.dirty) (sym same.dirty) is.dirty;
   since = later_slots_change_no_number tables W (s ∷ []) r.edits r.done r.dirty.since is.done is.since;
@@ -80,7 +83,7 @@ pub record IsNewRepair (tables : Tables) (E : List Edit) (kept : List KeptSlot) 
   pub edits : r.edits ≡ E
   pub replacements : HasEdits r.replacements E
   pub done : r.done ≡ 0
-  pub reexecuted : r.reexecuted ≡ 0
+  pub reexecuted : r.reexecuted ≡ []
   pub catalog : r.dirty.catalog ≡ tables
   pub dirty : SameMembers r.dirty.dirty nothing_dirty
   pub since : r.dirty.since ≡ nothing_since
@@ -92,7 +95,8 @@ IsRepair-new tables W E kept r named accepted are new = record {
   accepted = subst (All (HasNoFault tables)) (sym new.edits) accepted;
   replacements = subst (HasEdits r.replacements) (sym new.edits) new.replacements;
   done = omega (arith, new.done);
-  reexecuted = new.reexecuted ∙ sym (no_slot_is_reexecuted_at_first tables W r.edits) ∙ ap (reexecuted_count tables W r.edits) (sym new.done);
+  reexecuted = new.reexecuted ∙ ap (numbers_of (is_due tables W r.edits)) (sym new.done);
+  count = ap length new.reexecuted ∙ sym (no_slot_is_reexecuted_at_first tables W r.edits) ∙ ap (reexecuted_count tables W r.edits) (sym new.done);
   catalog = new.catalog;
   dirty = subst (λ n. SameMembers r.dirty.dirty (dirty_after tables W r.edits n)) (sym new.done) (subst (SameMembers r.dirty.dirty) (sym (nothing_is_dirty_at_first tables W r.edits)) new.dirty);
   since = subst (λ n. TellsSince tables W r.edits n r.dirty.since) (sym new.done) (subst (TellsSince tables W r.edits 0) (sym new.since) (no_numbers_at_first tables W r.edits nothing_since (record { rows = λ table key. refl; partitions = λ p. refl; tables = λ table. refl })));
@@ -109,7 +113,8 @@ IsRepair-undue tables W r after is room undue new = subst (IsRepair tables W) (s
   accepted = is.accepted;
   replacements = is.replacements;
   done = omega (arith, room);
-  reexecuted = is.reexecuted ∙ sym (undue_slots_are_not_reexecuted tables W E n undue) ∙ ap (reexecuted_count tables W E) next;
+  reexecuted = is.reexecuted ∙ sym (numbers-stay (is_due tables W E) n undue) ∙ ap (numbers_of (is_due tables W E)) next;
+  count = is.count ∙ sym (undue_slots_are_not_reexecuted tables W E n undue) ∙ ap (reexecuted_count tables W E) next;
   catalog = is.catalog;
   dirty = subst (λ m. SameMembers r.dirty.dirty (dirty_after tables W E m)) next (subst (SameMembers r.dirty.dirty) (sym (undue_slots_dirty_nothing tables W E n undue)) is.dirty);
   since = subst (λ m. TellsSince tables W E m r.dirty.since) next (numbers_stay_undue tables W E n r.dirty.since undue is.since);
@@ -238,7 +243,8 @@ IsRepair-due tables W r after before left is room due done reexecuted = record {
   accepted = subst (All (HasNoFault tables)) (sym done.edits) is.accepted;
   replacements = subst (HasEdits after.replacements) (sym done.edits) (subst (λ (m : List (ℤ × Replacement)). HasEdits m E) (sym done.replacements) is.replacements);
   done = omega (arith, done.done, room);
-  reexecuted = done.reexecuted ∙ ap (λ m. m + 1) is.reexecuted ∙ next_number (reexecuted_count tables W E n) ∙ sym (due_slots_are_reexecuted tables W E n due) ∙ (λ i. reexecuted_count tables W (sym done.edits i) (now i));
+  reexecuted = done.reexecuted ∙ (λ i. is.reexecuted i ++ next_number n i ∷ []) ∙ sym (numbers-more (is_due tables W E) n due) ∙ (λ i. numbers_of (is_due tables W (sym done.edits i)) (now i));
+  count = ap length done.reexecuted ∙ length-append r.reexecuted ((n + 1) ∷ []) ∙ ap (λ m. m + 1) is.count ∙ next_number (reexecuted_count tables W E n) ∙ sym (due_slots_are_reexecuted tables W E n due) ∙ (λ i. reexecuted_count tables W (sym done.edits i) (now i));
   catalog = done.catalog ∙ is.catalog;
   dirty = subst (λ (D : DirtySet). SameMembers after.dirty.dirty D) dirty_now (SameMembers-trans reexecuted.dirty (dirty_rows_depend_on_members r.dirty.catalog X Y rows r.dirty.dirty (dirty_after tables W E n) is.dirty));
   since = subst (λ (F : List Edit). TellsSince tables W F after.done after.dirty.since) (sym done.edits) (subst (λ m. TellsSince tables W E m after.dirty.since) now since_now);

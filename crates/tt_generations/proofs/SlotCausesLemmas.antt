@@ -1,5 +1,5 @@
 -- The cause of a slot that the repair has done.
-use Rattle.std.proofs.Common.{◌≡◌, ℕ, zero, suc, ◌-◌, ◌<◌, ◌≤◌, nat_lt, pos, true, List, Option, Some, None, is_some, length, slice_get, if◌then◌else◌, refl, sym, ap, subst, ◌∙◌, arith}
+use Rattle.std.proofs.Common.{◌≡◌, ℕ, zero, suc, pred, ◌+◌, ◌-◌, ◌<◌, ◌≤◌, nat_lt, pos, true, List, Option, Some, None, is_some, length, slice_get, if◌then◌else◌, refl, sym, ap, subst, ◌∙◌, arith}
 use Rattle.std.specs.Option.{option_map}
 use Rattle.std.specs.Ordering.{int_cmp}
 use Rattle.std.specs.FinMap.Entries as sorted
@@ -9,18 +9,22 @@ use Rattle.std.proofs.lemmas.List.{length-map}
 use Rattle.tt_values.specs.declared.action.Action.{Action}
 use Rattle.tt_values.specs.Tables.{Tables, IsCatalog}
 use Rattle.tt_values.specs.RowWrites.{Slots, slot_after}
+use Rattle.tt_repair_laws.specs.declared.edit.Edit.{Edit}
 use Rattle.tt_repair_laws.specs.Edits.{edit_of, replacement_of}
-use Rattle.tt_repair_laws.specs.Due.{content_after, slot_rows_touched}
+use Rattle.tt_repair_laws.specs.Due.{content_after, is_due, slot_rows_touched}
 use Rattle.tt_causes.specs.Causes.{Edited, slot_action_writes, cause}
 use Rattle.tt_causes.specs.Numbers.{cause_by_numbers}
-use Rattle.tt_causes.proofs.LawProofs.{causes_are_found_by_numbers}
+use Rattle.tt_causes.proofs.LawProofs.{due_slots_have_a_cause, causes_are_found_by_numbers}
 use Rattle.tt_generations.specs.declared.slot.KeptSlot.{KeptSlot}
 use Rattle.tt_generations.specs.declared.repair.Repair.{Repair}
 use Rattle.tt_generations.specs.Rows.{TablesByPosition}
 use Rattle.tt_generations.specs.KeptSlots.{kept_slot, actions_of, AreAccepted}
 use Rattle.tt_generations.specs.Repair.{HasKeysIfAny, as_action, kept_cause}
-use Rattle.tt_generations.specs.SlotCauses.{cause_at}
+use Rattle.tt_generations.specs.SlotCauses.{cause_at, next_redone_at}
+use Rattle.tt_generations.specs.ReexecutedSlots.{numbers_of, DividesAt}
+use Rattle.tt_generations.specs.TwoGenerations.{Repairing}
 use Rattle.tt_generations.specs.Generations.{phase_of, IsRepair, IsRepairIfAny, AreGenerations}
+use Rattle.tt_generations.proofs.ReexecutedSlotsLemmas.{first-at, find-same}
 use Rattle.tt_generations.proofs.RepairStepsLemmas.{rows-kept}
 use Rattle.tt_generations.proofs.GenerationsLemmas.{keys-kept}
 
@@ -74,6 +78,32 @@ cause-found tables kept versions repair r (suc i) position k are is first within
       where
         many : length W ≡ length kept
         many = length-map kept (λ (t : KeptSlot). t.slot.action)
+
+-- a slot that is done has a cause where it was due
+cause-done : (tables : Tables) (W : Slots) (E : List Edit) (n t : ℕ) → 0 < t → t ≤ n → is_due tables W E (pred t) ≡ is_some (cause_at tables (Repairing E n) W t)
+cause-done tables W E n zero first last = absurd (omega (arith, first))
+cause-done tables W E n (suc i) first last =
+    let done : true ≡ nat_lt i n = grind (arith, nat_tests) in
+    sym (due_slots_have_a_cause tables W E i) ∙ ap (λ b. is_some (if b then cause tables W E i else None)) done
+
+-- the place that divides the numbers of the re-executed slots has the first one behind a number
+pub next_redone-found : (tables : Tables) (kept : List KeptSlot) (versions : TablesByPosition) (repair : Option Repair) (r : Repair) (number place : ℕ) → AreGenerations tables kept versions repair
+    → Some r ≡ repair → DividesAt r.reexecuted number place → slice_get r.reexecuted place ≡ next_redone_at tables (phase_of repair) (actions_of kept) number
+next_redone-found tables kept versions repair r number place are is at =
+    ap (λ (ns : List ℕ). slice_get ns place) numbers
+    ∙ first-at (is_due tables W r.edits) r.done number place (subst (λ (ns : List ℕ). DividesAt ns number place) numbers at)
+    ∙ find-same (λ t. is_due tables W r.edits (pred t)) (λ t. is_some (cause_at tables (Repairing r.edits r.done) W t)) (number + 1) (r.done - number)
+    (λ t low high. cause-done tables W r.edits r.done t (omega (arith, low)) (omega (arith, low, high)))
+    ∙ ap (λ (o : Option Repair). next_redone_at tables (phase_of o) W number) is
+  where
+    W : Slots
+    W = actions_of kept
+
+    under_way : IsRepair tables W r
+    under_way = subst (IsRepairIfAny tables W) (sym is) are.under_way
+
+    numbers : r.reexecuted ≡ numbers_of (is_due tables W r.edits) r.done
+    numbers = under_way.reexecuted
 
 -- a slot that is kept has the keys of its rows
 pub keys-found : (tables : Tables) (kept : List KeptSlot) (position : ℕ) (k : KeptSlot) → IsCatalog tables → AreAccepted tables (actions_of kept) → slice_get kept position ≡ Some k → HasKeysIfAny k.slot.action

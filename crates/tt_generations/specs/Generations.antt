@@ -7,7 +7,7 @@ use Rattle.tt_versions.specs.Sides.{current_of, next_of, is_split}
 use Rattle.tt_parts.specs.Dirty.{SameMembers}
 use Rattle.tt_repair_laws.specs.declared.edit.Edit.{Edit}
 use Rattle.tt_repair_laws.specs.Edits.{edited_slots, HasNoFault}
-use Rattle.tt_repair_laws.specs.Due.{dirty_after, reexecuted_count}
+use Rattle.tt_repair_laws.specs.Due.{is_due, dirty_after, reexecuted_count}
 use Rattle.tt_repair_laws.specs.NextSide.{current_side}
 use Rattle.tt_causes.specs.Numbers.{TellsSince}
 use Rattle.tt_generations.specs.declared.slot.KeptSlot.{KeptSlot}
@@ -16,6 +16,7 @@ use Rattle.tt_generations.specs.Limits.{max_slots}
 use Rattle.tt_generations.specs.Rows.{TablesByPosition, versions_at}
 use Rattle.tt_generations.specs.EditsByNumber.{HasEdits}
 use Rattle.tt_generations.specs.KeptSlots.{kept_slot, actions_of, AreKept, AreAccepted}
+use Rattle.tt_generations.specs.ReexecutedSlots.{numbers_of}
 use Rattle.tt_generations.specs.TwoGenerations.{TwoGenerations, Phase, Idle, Repairing, NamesSlot, next_side_of, dirty_rows_of}
 
 -- both sides of each table show what they are to show, and the dirty rows are split
@@ -34,7 +35,8 @@ pub record IsRepair (tables : Tables) (W : Slots) (r : Repair) : Type 0 where
   pub accepted : All (HasNoFault tables) r.edits
   pub replacements : HasEdits r.replacements r.edits
   pub done : r.done ≤ length W
-  pub reexecuted : r.reexecuted ≡ reexecuted_count tables W r.edits r.done
+  pub reexecuted : r.reexecuted ≡ numbers_of (is_due tables W r.edits) r.done
+  pub count : length r.reexecuted ≡ reexecuted_count tables W r.edits r.done
   pub catalog : r.dirty.catalog ≡ tables
   pub dirty : SameMembers r.dirty.dirty (dirty_after tables W r.edits r.done)
   pub since : TellsSince tables W r.edits r.done r.dirty.since

@@ -11,6 +11,7 @@ pub mod KeptSlots
 pub mod SlotsAfter
 pub mod EditsByNumber
 pub mod Repair
+pub mod ReexecutedSlots
 pub mod Generations
 pub mod Pages
 pub mod SlotCauses

@@ -96,7 +96,7 @@ pub record HasDoneDueSlot (before after : Repair) : Type 0 where
   pub edits : after.edits ≡ before.edits
   pub replacements : after.replacements ≡ before.replacements
   pub done : after.done ≡ before.done + 1
-  pub reexecuted : after.reexecuted ≡ before.reexecuted + 1
+  pub reexecuted : after.reexecuted ≡ before.reexecuted ++ (before.done + 1) ∷ []
   pub catalog : after.dirty.catalog ≡ before.dirty.catalog
 
 -- the repair, if there is one, after a slot was added to the current generation

@@ -1,5 +1,6 @@
 -- Why a repair re-executed a slot, as calls tell it.
-use Rattle.std.specs.Prelude.{ℕ, zero, suc, nat_lt, List, [], ◌∷◌, Option, None, Some, if◌then◌else◌}
+use Rattle.std.specs.Prelude.{ℕ, zero, suc, ◌+◌, ◌-◌, nat_lt, List, [], ◌∷◌, Option, None, Some, is_some, if◌then◌else◌}
+use Rattle.std.specs.List.{find, range_with_len}
 use Rattle.std.specs.Ordering.{is_lt}
 use Rattle.tt_values.specs.declared.row_id.RowId.{RowId}
 use Rattle.tt_values.specs.Action.{row_id_cmp}
@@ -34,3 +35,8 @@ abbrev pub cause_at : Tables → Phase → Slots → ℕ → Option Cause
 cause_at tables Idle W number = None
 cause_at tables (Repairing edits n) W zero = None
 cause_at tables (Repairing edits n) W (suc i) = if nat_lt i n then cause tables W edits i else None
+
+-- of the slots that the repair has done, the number of the first one behind a number that it re-executed
+abbrev pub next_redone_at : Tables → Phase → Slots → ℕ → Option ℕ
+next_redone_at tables Idle W number = None
+next_redone_at tables (Repairing edits n) W number = find (λ t. is_some (cause_at tables (Repairing edits n) W t)) (range_with_len (number + 1) (n - number))

@@ -85,7 +85,6 @@ impl BoxedRepair {
         kept: &KeptSlot,
     ) -> Result<bool, AllocError>
         requires room { self.old.done < max_slots }
-        requires few_reexecuted { self.old.reexecuted ≤ self.old.done }
         requires there { self.old.done < length self.old.slots }
         requires catalog { self.old.dirty.catalog ≡ catalog.now }
         requires numbers { NumbersAgree self.old.dirty.dirty self.old.dirty.since }
@@ -109,7 +108,6 @@ impl BoxedRepair {
         kept: &KeptSlot,
     ) -> Result<(), AllocError>
         requires room { self.old.done < max_slots }
-        requires few_reexecuted { self.old.reexecuted ≤ self.old.done }
         requires there { self.old.done < length self.old.slots }
         requires catalog { self.old.dirty.catalog ≡ catalog.now }
         requires numbers { NumbersAgree self.old.dirty.dirty self.old.dirty.since }

@@ -13,8 +13,8 @@ ghost use Rattle.tt_causes.specs.Numbers.{is_by, row_id_since, condition_since, 
 ghost use Rattle.tt_generations.specs.SlotCauses.{cause_told, lesser_row};
 
 use crate::cause::Cause;
-use crate::since::{condition_since, named_since, reads_partition, slot_since, unclear_since};
-use tt_parts::{Dirty, equates_partition};
+use crate::since::{condition_since, named_since, slot_since, unclear_since};
+use tt_parts::{Dirty, equates_partition, reads_partition};
 use tt_values::{Equal, RowId, Value, Write};
 
 /// The cause of a slot that isn't edited, touched these rows and has these writes, of those that

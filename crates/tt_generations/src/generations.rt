@@ -176,7 +176,7 @@ impl Generations {
         Some(Progress {
             done: repair.done,
             left: self.len() - repair.done,
-            rerun: repair.reexecuted,
+            rerun: repair.reexecuted.len() as u64,
         })
     }
 
@@ -216,7 +216,7 @@ impl Generations {
         ensures { result ≡ reexecuted_of self.now.catalog self.now.phase self.now.slots }
     {
         match &self.state.repair {
-            Some(repair) => repair.reexecuted,
+            Some(repair) => repair.reexecuted.len() as u64,
             None => 0,
         }
     }

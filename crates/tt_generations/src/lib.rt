@@ -17,6 +17,7 @@ mod repair;
 mod row_change;
 mod row_ids;
 mod rows;
+mod search;
 mod since;
 mod slot;
 mod slots;

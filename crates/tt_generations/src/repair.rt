@@ -35,8 +35,8 @@ pub(crate) struct Repair {
     pub(crate) replacements: PagedMap<Replacement>,
     /// How many slots are done.
     pub(crate) done: u64,
-    /// How many of them were due.
-    pub(crate) reexecuted: u64,
+    /// The numbers of those of them that were due, counted from 1, rising.
+    pub(crate) reexecuted: PagedLog<u64>,
     pub(crate) dirty: Dirty,
     /// The slots done as the next generation has them, and then the others of the current one.
     pub(crate) slots: PagedLog<KeptSlot>,
@@ -68,7 +68,7 @@ impl Repair {
         ensures edits { IfOk result (λ r. r.edits ≡ edits) }
         ensures replacements { IfOk result (λ r. HasEdits r.replacements edits) }
         ensures done { IfOk result (λ r. r.done ≡ 0) }
-        ensures reexecuted { IfOk result (λ r. r.reexecuted ≡ 0) }
+        ensures reexecuted { IfOk result (λ r. r.reexecuted ≡ []) }
         ensures catalog { IfOk result (λ r. r.dirty.catalog ≡ catalog.now) }
         ensures dirty { IfOk result (λ r. SameMembers r.dirty.dirty nothing_dirty) }
         ensures since { IfOk result (λ r. r.dirty.since ≡ nothing_since) }
@@ -81,7 +81,7 @@ impl Repair {
             edits,
             replacements,
             done: 0,
-            reexecuted: 0,
+            reexecuted: PagedLog::new(alloc),
             dirty: Dirty::new(alloc, catalog.into_arc()),
             slots,
         })
@@ -93,13 +93,14 @@ impl Repair {
     {
         let edits = self.edits.clone()?;
         let replacements = self.replacements.share()?;
+        let reexecuted = self.reexecuted.share()?;
         let dirty = self.dirty.share()?;
         let slots = self.slots.share()?;
         Ok(Repair {
             edits,
             replacements,
             done: self.done,
-            reexecuted: self.reexecuted,
+            reexecuted,
             dirty,
             slots,
         })
@@ -231,7 +232,6 @@ impl Repair {
         kept: &KeptSlot,
     ) -> Result<bool, AllocError>
         requires room { self.old.done < max_slots }
-        requires few_reexecuted { self.old.reexecuted ≤ self.old.done }
         requires there { self.old.done < length self.old.slots }
         requires catalog { self.old.dirty.catalog ≡ catalog.now }
         requires numbers { NumbersAgree self.old.dirty.dirty self.old.dirty.since }
@@ -264,7 +264,6 @@ impl Repair {
         kept: &KeptSlot,
     ) -> Result<(), AllocError>
         requires room { self.old.done < max_slots }
-        requires few_reexecuted { self.old.reexecuted ≤ self.old.done }
         requires there { self.old.done < length self.old.slots }
         requires catalog { self.old.dirty.catalog ≡ catalog.now }
         requires numbers { NumbersAgree self.old.dirty.dirty self.old.dirty.since }
@@ -289,7 +288,6 @@ impl Repair {
         kept: &KeptSlot,
     ) -> Result<(), AllocError>
         requires room { self.old.done < max_slots }
-        requires few_reexecuted { self.old.reexecuted ≤ self.old.done }
         requires there { self.old.done < length self.old.slots }
         requires catalog { self.old.dirty.catalog ≡ catalog.now }
         requires numbers { NumbersAgree self.old.dirty.dirty self.old.dirty.since }
@@ -316,17 +314,16 @@ impl Repair {
     /// Puts the next slot as it was re-executed.
     fn put_slot(&mut self, kept: KeptSlot) -> Result<(), AllocError>
         requires room { self.old.done < max_slots }
-        requires few_reexecuted { self.old.reexecuted ≤ self.old.done }
         requires there { self.old.done < length self.old.slots }
         ensures { OnOk result (self.new ≡ record self.old {
           done = self.old.done + 1;
-          reexecuted = self.old.reexecuted + 1;
+          reexecuted = self.old.reexecuted ++ (self.old.done + 1) ∷ [];
           slots = slice_set self.old.slots self.old.done kept;
         }) }
     {
         self.slots.replace(self.done as usize, kept)?;
         self.done += 1;
-        self.reexecuted += 1;
+        self.reexecuted.push(self.done)?;
         Ok(())
     }
 }

@@ -1,13 +1,13 @@
 //! Since when what is dirty may affect a slot: the number of the first slot after which it may.
 ghost use Rattle.std.specs.Prelude.{◌≡◌, filter};
-ghost use Rattle.std.specs.List.{All, list_any};
+ghost use Rattle.std.specs.List.{All};
 ghost use Rattle.tt_values.specs.Check.{HasKey};
 ghost use Rattle.tt_parts.specs.Partitions.{equates_partition, partition_of, equated_partitions};
 ghost use Rattle.tt_parts.specs.Dirty.{columns_in, partition_since};
 ghost use Rattle.tt_causes.specs.Numbers.{earlier, later, earliest, row_id_since, key_since, condition_since, named_since, read_since, unclear_since, slot_since};
 ghost use Rattle.tt_generations.specs.SlotCauses.{latest_of};
 
-use tt_parts::{Dirty, equates_partition};
+use tt_parts::{Dirty, equates_partition, reads_partition};
 use tt_values::{Column, Equal, RowId, Value, Write};
 
 /// Since when what is dirty may affect a slot that touched these rows and has these writes: since
@@ -125,13 +125,6 @@ fn read_since(dirty: &Dirty, table: u16, equals: &[Equal]) -> Option<u64>
     } else {
         dirty.table_since(table)
     }
-}
-
-/// Whether one of the conditions is an equality on a partition column.
-pub(crate) fn reads_partition(columns: &[Column], equals: &[Equal]) -> bool
-    ensures { result ≡ list_any (equates_partition columns.now) equals.now }
-{
-    equals.iter().any(|equal| equates_partition(columns, equal))
 }
 
 /// Since when the partition of each equality on a partition column is dirty. 0 where there is none.

@@ -36,7 +36,9 @@ pub use quoting::push_quoted;
 pub use table_text::push_tables;
 pub use text_value::parse_text;
 pub use version::{NEWEST_SESSION_VERSION, OLDEST_SESSION_VERSION};
-pub use write_text::{push_action, push_action_or_null, push_named_action};
+pub use write_text::{
+    column_name, push_action, push_action_or_null, push_equals, push_named_action, table_name,
+};
 
 /// The largest number of edits of a repair.
 pub const MAX_EDITS: usize = 10_000;

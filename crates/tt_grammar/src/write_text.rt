@@ -14,7 +14,7 @@ use std::alloc::AllocError;
 use tt_values::{Action, Catalog, Change, Equal, Row, Value, Write};
 
 /// The name of the table at a position, or an empty one where there is no table.
-fn table_name(catalog: &Catalog, table: u16) -> &str
+pub fn table_name(catalog: &Catalog, table: u16) -> &str
     ensures { result.now ≡ table_name catalog.now table }
 {
     match catalog.name(table) {
@@ -24,7 +24,7 @@ fn table_name(catalog: &Catalog, table: u16) -> &str
 }
 
 /// The name of the column at a position of a table, or an empty one where there is no column.
-fn column_name(catalog: &Catalog, table: u16, column: u16) -> &str
+pub fn column_name(catalog: &Catalog, table: u16, column: u16) -> &str
     ensures { result.now ≡ column_name catalog.now table column }
 {
     let Some(def) = catalog.table(table) else {
@@ -329,7 +329,7 @@ fn push_add(
 }
 
 /// Pushes the conditions of a write as an array.
-fn push_equals(
+pub fn push_equals(
     out: &mut Vec<u8>,
     catalog: &Catalog,
     table: u16,

@@ -16,6 +16,7 @@ mod same_digest;
 mod statement_reads;
 
 pub use dirty::Dirty;
+pub use members::reads_partition;
 pub use partition::{Partition, Reads};
 pub use parts::parts_of;
 pub use statement_reads::{equates_partition, reads_of};

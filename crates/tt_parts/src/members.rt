@@ -239,7 +239,7 @@ fn ensure_member(
 }
 
 /// Whether one of the conditions is an equality on a partition column.
-pub(crate) fn reads_partition(columns: &[Column], equals: &[Equal]) -> bool
+pub fn reads_partition(columns: &[Column], equals: &[Equal]) -> bool
     ensures { result ≡ list_any (equates_partition columns.now) equals.now }
 {
     equals.iter().any(|equal| equates_partition(columns, equal))

@@ -1,6 +1,5 @@
 -- The law of requests: what a request asks for has been judged.
-use Rattle.std.proofs.Common.{◌≡◌, ℕ, ◌≤◌, Bool, true, false, List, [], ◌∷◌, length, Option, None, Some, if◌then◌else◌, Result, Ok, codes, sym, subst, ltb-false}
-use Rattle.std.specs.Str.{bytes_eq}
+use Rattle.std.proofs.Common.{◌≡◌, ℕ, ◌≤◌, List, [], ◌∷◌, length, Result, Ok, codes, sym, subst, ltb-false}
 use Rattle.std.proofs.lemmas.List.Elements.{All-from_recursion}
 use Rattle.serde_json.specs.Data.{Data}
 use Rattle.tt_values.specs.declared.statement.Select.{Select}
@@ -13,7 +12,7 @@ use Rattle.tt_grammar.specs.declared.fault.DocFault.{DocFault}
 use Rattle.tt_grammar.specs.declared.statements.Context.TheVariants as contexts
 use Rattle.tt_grammar.specs.declared.version.Version.{Version}
 use Rattle.tt_grammar.specs.Fault.{◌>>=◌, document_path}
-use Rattle.tt_grammar.specs.Decoder.{object, array, within_limit, text, count, count_within, has, member, optional}
+use Rattle.tt_grammar.specs.Decoder.{object, array, within_limit, count, count_within, has, member, optional}
 use Rattle.tt_grammar.specs.Members.{is_one_of, no_members_but}
 use Rattle.tt_grammar.specs.Conditions.{table_named}
 use Rattle.tt_grammar.specs.Statements.{checked_statement, conditions, no_members_at, insert, update, delete}
@@ -27,12 +26,16 @@ use Rattle.tt_requests.specs.declared.request.Request.{Request}
 use Rattle.tt_requests.specs.Kinds.{kind_of}
 use Rattle.tt_requests.specs.Told.{named_time, named_generation}
 use Rattle.tt_requests.specs.Edits.{cancel, replace, edit, edits}
-use Rattle.tt_requests.specs.Reads.{page, slot_page, read, preview}
-use Rattle.tt_requests.specs.Questions.{worker_number, span, row_named, slots, changes_named, changes_asked, changes}
-use Rattle.tt_requests.specs.Requests.{one_write, several_writes, begin, max_steps, why, forget, only_true, bare, command_of, command, members_of_request}
+use Rattle.tt_requests.specs.Reads.{page, slot_page, diff_page, read, preview}
+use Rattle.tt_requests.specs.Questions.{worker_number, span, row_named, slots, changes_asked, changes}
+use Rattle.tt_requests.specs.Requests.{one_write, several_writes, begin, max_steps, why, diff, would, forget, only_true, bare, command_of, command, members_of_request}
 use Rattle.tt_requests.specs.Requests as requests
+use Rattle.tt_requests.specs.Questions as questions
+use Rattle.tt_requests.specs.declared.questions.Moment.{Moment}
+use Rattle.tt_requests.specs.declared.questions.Moment.TheVariants as moments
+use Rattle.tt_requests.specs.declared.request.ChangePage.{ChangePage}
 use Rattle.tt_requests.specs.Judged.{AreJudgedEdits, IsJudged, RequestsAreJudged}
-use Rattle.tt_requests.proofs.StepBackLemmas.{ok_same, step, with_path-ok, either-ok, or_refuse-ok, within_limit-ok, member-ok, each-ok}
+use Rattle.tt_requests.proofs.StepBackLemmas.{ok_same, step, with_path-ok, either-ok, within_limit-ok, member-ok, each-ok}
 use Rattle.tt_requests.proofs.AcceptedLemmas.{Accepts, insert-accepted, update-accepted, delete-accepted, one_write-accepted, action-accepted, replacement-accepted, select-accepted}
 
 -- ---- edits
@@ -167,6 +170,23 @@ why-judged tables v asked e =
     let known = step (no_members_at contexts.Request (codes "after" ∷ codes "in" ∷ codes "most" ∷ codes "why" ∷ []) v) _ asked wanted.rest in
     subst (IsJudged tables) (ok_same known.rest) tt
 
+diff-judged : (tables : Tables) → Judges tables (diff tables)
+unfolding diff
+diff-judged tables v asked e =
+    let is_true = step (member (codes "diff") only_true v) _ asked e in
+    let generation = step (optional (codes "in") named_generation v) _ asked is_true.rest in
+    let wanted = step (diff_page tables v) _ asked generation.rest in
+    let known = step (no_members_at contexts.Request (codes "after" ∷ codes "diff" ∷ codes "in" ∷ codes "most" ∷ []) v) _ asked wanted.rest in
+    subst (IsJudged tables) (ok_same known.rest) tt
+
+would-judged : (version : Version) (tables : Tables) → Judges tables (would version tables)
+unfolding would
+would-judged version tables v asked e =
+    let read = step (member (codes "would") (edits version tables) v) _ asked e in
+    let known = step (no_members_at contexts.Request (codes "would" ∷ []) v) _ asked read.rest in
+    let source = member-ok (codes "would") (edits version tables) v read.value read.is in
+    subst (IsJudged tables) (ok_same known.rest) (edits-judged version tables source.value read.value source.is)
+
 bare-judged : (tables : Tables) (name : List ℕ) (only : Command) → IsJudged tables only → Judges tables (bare name only)
 unfolding bare
 bare-judged tables name only judged v asked e =
@@ -183,29 +203,17 @@ slots-judged tables v asked e =
     let known = step (no_members_at contexts.Request (codes "of" ∷ codes "row" ∷ codes "slots" ∷ []) v) _ asked row.rest in
     subst (IsJudged tables) (ok_same known.rest) tt
 
-some_same : {T : Type 0} {x y : T} → ◌≡◌ {A = Option T} (Some x) (Some y) → x ≡ y
-some_same e = cc
-
-named-judged : (tables : Tables) (now next : Bool) (asked : Command)
-    → (if now then Some commands.Changes else (if next then Some commands.NextChanges else None)) ≡ Some asked → IsJudged tables asked
-named-judged tables true next asked e = subst (IsJudged tables) (some_same e) tt
-named-judged tables false true asked e = subst (IsJudged tables) (some_same e) tt
-named-judged tables false false asked e = cc
-
-changes_asked-judged : (tables : Tables) → Judges tables changes_asked
-unfolding changes_asked
-changes_asked-judged tables v asked e =
-    let name = step (text v) _ asked e in
-    named-judged tables (bytes_eq name.value (codes "now")) (bytes_eq name.value (codes "next")) asked
-    (or_refuse-ok (codes "out of range") (changes_named name.value) asked name.rest)
+changes_at-judged : (tables : Tables) (moment : Moment) (page : ChangePage) → IsJudged tables (questions.changes_at moment page)
+changes_at-judged tables moments.Now page = tt
+changes_at-judged tables moments.Next page = tt
 
 changes-judged : (tables : Tables) → Judges tables changes
 unfolding changes
 changes-judged tables v asked e =
-    let read = step (member (codes "changes") changes_asked v) _ asked e in
-    let known = step (no_members_at contexts.Request (codes "changes" ∷ []) v) _ asked read.rest in
-    let source = member-ok (codes "changes") changes_asked v read.value read.is in
-    subst (IsJudged tables) (ok_same known.rest) (changes_asked-judged tables source.value read.value source.is)
+    let moment = step (member (codes "changes") changes_asked v) _ asked e in
+    let wanted = step (questions.change_page v) _ asked moment.rest in
+    let known = step (no_members_at contexts.Request (codes "after" ∷ codes "asked" ∷ codes "changes" ∷ codes "most" ∷ codes "of" ∷ codes "only" ∷ []) v) _ asked wanted.rest in
+    subst (IsJudged tables) (ok_same known.rest) (changes_at-judged tables moment.value wanted.value)
 
 -- ---- a command, by its kind
 
@@ -225,6 +233,8 @@ command_of-judged version tables kinds.Slots v asked e = slots-judged tables v a
 command_of-judged version tables kinds.Changes v asked e = changes-judged tables v asked e
 command_of-judged version tables kinds.Tables v asked e = bare-judged tables (codes "tables") commands.Tables tt v asked e
 command_of-judged version tables kinds.Why v asked e = why-judged tables v asked e
+command_of-judged version tables kinds.Diff v asked e = diff-judged tables v asked e
+command_of-judged version tables kinds.Would v asked e = would-judged version tables v asked e
 command_of-judged version tables kinds.Forget v asked e = forget-judged tables v asked e
 
 command-judged : (version : Version) (tables : Tables) → Judges tables (command version tables)

@@ -11,3 +11,4 @@ pub mod SessionLineLemmas
 mod worked_lines
 mod worked_versions
 mod worked_whole_actions
+mod worked_changes

@@ -18,7 +18,7 @@ use Rattle.tt_requests.specs.Told.{named_time}
 use Rattle.tt_requests.specs.Edits.{replace, edit, edits}
 use Rattle.tt_requests.specs.Reads.{read, preview}
 use Rattle.tt_requests.specs.Questions.{worker_number}
-use Rattle.tt_requests.specs.Requests.{one_write, several_writes, begin, command_of, command, members_of_request}
+use Rattle.tt_requests.specs.Requests.{one_write, several_writes, begin, would, command_of, command, members_of_request}
 use Rattle.tt_requests.specs.NewestVersion.{RequestsReadTheSame}
 
 -- ---- edits
@@ -62,6 +62,11 @@ unfolding begin
 begin-same version tables v =
     made-same _ _ _ (member-same (codes "begin") (edits version tables) (edits newest_version tables) v (edits-same version tables))
 
+would-same : (version : Version) (tables : Tables) (v : Data) → ReadsTheSame (would version tables v) (would newest_version tables v)
+unfolding would
+would-same version tables v =
+    made-same _ _ _ (member-same (codes "would") (edits version tables) (edits newest_version tables) v (edits-same version tables))
+
 -- of the kinds, the conditions, the actions and the edits depend on the version
 command_of-same : (version : Version) (tables : Tables) (kind : RequestKind) (v : Data) → ReadsTheSame (command_of version tables kind v) (command_of newest_version tables kind v)
 unfolding one_write
@@ -80,6 +85,8 @@ command_of-same version tables kinds.Slots v = λ t e. e
 command_of-same version tables kinds.Changes v = λ t e. e
 command_of-same version tables kinds.Tables v = λ t e. e
 command_of-same version tables kinds.Why v = λ t e. e
+command_of-same version tables kinds.Diff v = λ t e. e
+command_of-same version tables kinds.Would v = would-same version tables v
 command_of-same version tables kinds.Forget v = λ t e. e
 
 command-same : (version : Version) (tables : Tables) (v : Data) → ReadsTheSame (command version tables v) (command newest_version tables v)

@@ -26,10 +26,11 @@ use Rattle.tt_requests.specs.declared.request.Request.{Request}
 use Rattle.tt_requests.specs.Kinds.{kind_of}
 use Rattle.tt_requests.specs.Told.{named_time, named_generation}
 use Rattle.tt_requests.specs.Edits.{edits}
-use Rattle.tt_requests.specs.Reads.{page, slot_page, read, preview}
+use Rattle.tt_requests.specs.Reads.{page, slot_page, diff_page, read, preview}
 use Rattle.tt_requests.specs.Questions.{worker_number, span, row_named, slots, changes_asked, changes}
-use Rattle.tt_requests.specs.Requests.{one_write, several_writes, begin, max_steps, end_of_repair, finish, abort, why, forget, only_true, bare, command_of, command, members_of_request, request_of}
+use Rattle.tt_requests.specs.Requests.{one_write, several_writes, begin, max_steps, end_of_repair, finish, abort, why, diff, would, forget, only_true, bare, command_of, command, members_of_request, request_of}
 use Rattle.tt_requests.specs.Requests as requests
+use Rattle.tt_requests.specs.Questions as questions
 use Rattle.tt_requests.specs.declared.session_line.SessionLine.{SessionLine}
 use Rattle.tt_requests.specs.declared.session_line.SessionLine.TheVariants as lines
 use Rattle.tt_requests.specs.SessionLine.{is_opening, session_line_of, RequestsAreNoOpenings}
@@ -169,6 +170,22 @@ why-none v asked e =
     let known = step (no_members_at contexts.Request (codes "after" ∷ codes "in" ∷ codes "most" ∷ codes "why" ∷ []) v) _ asked wanted.rest in
     none-at (codes "after" ∷ codes "in" ∷ codes "most" ∷ codes "why" ∷ []) refl v known.value known.is
 
+diff-none : (tables : Tables) → HasNone (diff tables)
+unfolding diff
+diff-none tables v asked e =
+    let is_true = step (member (codes "diff") only_true v) _ asked e in
+    let generation = step (optional (codes "in") named_generation v) _ asked is_true.rest in
+    let wanted = step (diff_page tables v) _ asked generation.rest in
+    let known = step (no_members_at contexts.Request (codes "after" ∷ codes "diff" ∷ codes "in" ∷ codes "most" ∷ []) v) _ asked wanted.rest in
+    none-at (codes "after" ∷ codes "diff" ∷ codes "in" ∷ codes "most" ∷ []) refl v known.value known.is
+
+would-none : (version : Version) (tables : Tables) → HasNone (would version tables)
+unfolding would
+would-none version tables v asked e =
+    let read = step (member (codes "would") (edits version tables) v) _ asked e in
+    let known = step (no_members_at contexts.Request (codes "would" ∷ []) v) _ asked read.rest in
+    none-at (codes "would" ∷ []) refl v known.value known.is
+
 bare-none : (name : List ℕ) (only : Command) → is_one_of (codes "if" ∷ codes "worker" ∷ name ∷ []) (codes "version") ≡ false → HasNone (bare name only)
 unfolding bare
 bare-none name only unknown v asked e =
@@ -188,9 +205,10 @@ slots-none tables v asked e =
 changes-none : HasNone changes
 unfolding changes
 changes-none v asked e =
-    let read = step (member (codes "changes") changes_asked v) _ asked e in
-    let known = step (no_members_at contexts.Request (codes "changes" ∷ []) v) _ asked read.rest in
-    none-at (codes "changes" ∷ []) refl v known.value known.is
+    let moment = step (member (codes "changes") changes_asked v) _ asked e in
+    let wanted = step (questions.change_page v) _ asked moment.rest in
+    let known = step (no_members_at contexts.Request (codes "after" ∷ codes "asked" ∷ codes "changes" ∷ codes "most" ∷ codes "of" ∷ codes "only" ∷ []) v) _ asked wanted.rest in
+    none-at (codes "after" ∷ codes "asked" ∷ codes "changes" ∷ codes "most" ∷ codes "of" ∷ codes "only" ∷ []) refl v known.value known.is
 
 -- ---- a command, by its kind
 
@@ -210,6 +228,8 @@ command_of-none version tables kinds.Slots v asked e = slots-none tables v asked
 command_of-none version tables kinds.Changes v asked e = changes-none v asked e
 command_of-none version tables kinds.Tables v asked e = bare-none (codes "tables") commands.Tables refl v asked e
 command_of-none version tables kinds.Why v asked e = why-none v asked e
+command_of-none version tables kinds.Diff v asked e = diff-none tables v asked e
+command_of-none version tables kinds.Would v asked e = would-none version tables v asked e
 command_of-none version tables kinds.Forget v asked e = forget-none v asked e
 
 command-none : (version : Version) (tables : Tables) → HasNone (command version tables)

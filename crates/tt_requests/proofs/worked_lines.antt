@@ -1,5 +1,6 @@
 -- Lines of an input, the JSON of a few of them, and what a few of them ask for, computed.
-use Rattle.std.specs.Prelude.{◌≡◌, true, false, [], ◌∷◌, None, Some, Ok, Err, codes, refl}
+use Rattle.std.specs.Prelude.{◌≡◌, pos, negsuc, true, false, [], ◌∷◌, None, Some, Ok, Err, codes, refl}
+use Rattle.std.specs.Fmt.{digits}
 use Rattle.std.specs.Char.{encode_utf8}
 use Rattle.std.specs.Str.{is_utf8, chars}
 use Rattle.std.specs.Float.Numeral.{scan_numeral}
@@ -9,9 +10,11 @@ use Rattle.json.specs.Text.{content, short_escape}
 use Rattle.json.specs.Word.{word, after_number}
 use Rattle.serde_json.specs.Read.{number_of}
 use Rattle.tt_json.specs.Text.{json_of_text}
+use Rattle.tt_repair_laws.specs.declared.edit.Edit.TheVariants.{Cancel}
 use Rattle.tt_grammar.specs.declared.fault.DocFault.TheVariants.{At}
 use Rattle.tt_grammar.specs.declared.version.Version.TheVariants.{Two, Three}
 use Rattle.tt_grammar.specs.TextValue.{value_of_json}
+use Rattle.tt_grammar.proofs.worked_texts.Accounts.{accounts}
 use Rattle.tt_requests.specs.declared.request.Command.TheVariants as commands
 use Rattle.tt_requests.specs.Lines.{lines_of, whole_lines_of, is_passed_over}
 use Rattle.tt_requests.specs.LineValue.{value_of_line}
@@ -19,8 +22,10 @@ use Rattle.tt_grammar.specs.Actions.{action}
 use Rattle.tt_requests.specs.Opening.{declaration}
 use Rattle.tt_requests.specs.LogOpening.{ground_numbering, members_of_log_opening, log_opening_of}
 use Rattle.tt_requests.specs.GroundAction.{ground_action_of}
-use Rattle.tt_requests.specs.Reads.{slot_page}
-use Rattle.tt_requests.specs.Requests.{step, end_of_repair, finish, abort, why, forget, only_true, bare, members_of_request, request_of}
+use Rattle.tt_requests.specs.Edits.{cancel, edit}
+use Rattle.tt_requests.specs.Questions.{row_named}
+use Rattle.tt_requests.specs.Reads.{slot_page, diff_page}
+use Rattle.tt_requests.specs.Requests.{step, end_of_repair, finish, abort, why, diff, would, forget, only_true, bare, members_of_request, request_of}
 use Rattle.tt_requests.specs.declared.session_line.SessionLine.TheVariants as lines
 use Rattle.tt_requests.specs.SessionLine.{session_line_of}
 
@@ -53,7 +58,8 @@ unfolding lex content short_escape punctuate word after_number json.value json.i
 no_json = (refl, refl)
 
 -- {"forget":1}, with its time as it is told
-forget_read : request_of Two [] (value_of_line (codes "{\"forget\":1}")) ≡ Ok (record { worker = 1; expected = None; command = commands.Forget (record { number = 1 }) })
+forget_read : request_of Two [] (value_of_line (codes "{\"forget\":1}"))
+    ≡ Ok (record { worker = 1; expected = None; command = commands.Forget (record { number = 1 }) })
 unfolding is_utf8 chars encode_utf8 lex content short_escape punctuate word after_number json.value json.items json.members scan_numeral number_of value_of_json value_of_line forget members_of_request
 forget_read = refl
 
@@ -63,9 +69,12 @@ unfolding is_utf8 chars encode_utf8 lex content short_escape punctuate word afte
 forget_below_zero = refl
 
 -- steps and ends of the repair of a worker, and of whoever began it
-repair_of_worker : (request_of Two [] (value_of_line (codes "{\"step\":1,\"of\":7}")) ≡ Ok (record { worker = 1; expected = None; command = commands.Step 1 (Some 7) }))
-    × (request_of Two [] (value_of_line (codes "{\"worker\":7,\"finish\":true,\"of\":7}")) ≡ Ok (record { worker = 7; expected = None; command = commands.Finish (Some 7) }))
-    × (request_of Two [] (value_of_line (codes "{\"abort\":true}")) ≡ Ok (record { worker = 1; expected = None; command = commands.Abort None }))
+repair_of_worker : (request_of Two [] (value_of_line (codes "{\"step\":1,\"of\":7}"))
+    ≡ Ok (record { worker = 1; expected = None; command = commands.Step 1 (Some 7) }))
+    × (request_of Two [] (value_of_line (codes "{\"worker\":7,\"finish\":true,\"of\":7}"))
+    ≡ Ok (record { worker = 7; expected = None; command = commands.Finish (Some 7) }))
+    × (request_of Two [] (value_of_line (codes "{\"abort\":true}"))
+    ≡ Ok (record { worker = 1; expected = None; command = commands.Abort None }))
 unfolding is_utf8 chars encode_utf8 lex content short_escape punctuate word after_number json.value json.items json.members scan_numeral number_of value_of_json value_of_line step end_of_repair finish abort only_true members_of_request
 repair_of_worker = (refl, refl, refl)
 
@@ -114,9 +123,62 @@ why_among_kinds : (request_of Two [] (value_of_line (codes "{\"why\":true,\"tabl
 unfolding is_utf8 chars encode_utf8 lex content short_escape punctuate word after_number json.value json.items json.members scan_numeral number_of value_of_json value_of_line slot_page why bare only_true members_of_request
 why_among_kinds = (refl, refl)
 
+-- which rows differ by the repair under way, and by the one that closed a generation
+diff_read : (request_of Three accounts (value_of_line (codes "{\"diff\":true}"))
+    ≡ Ok (record { worker = 1; expected = None; command = commands.Diff None (record { after = None; most = None }) }))
+    × (request_of Three accounts (value_of_line (codes "{\"diff\":true,\"in\":0}"))
+    ≡ Ok (record { worker = 1; expected = None; command = commands.Diff (Some (record { number = 0 })) (record { after = None; most = None }) }))
+unfolding is_utf8 chars encode_utf8 lex content short_escape punctuate word after_number json.value json.items json.members scan_numeral number_of value_of_json value_of_line diff_page diff only_true members_of_request
+diff_read = (refl, refl)
+
+-- a page of them: the rows behind one, by its table and its key, and so many
+diff_of_a_page : (request_of Three accounts (value_of_line (codes "{\"most\":100000,\"after\":[\"acct\",3],\"diff\":true}"))
+    ≡ Ok (record { worker = 1; expected = None; command = commands.Diff None (record { after = Some (record { table = 0; key = pos 3 }); most = Some 100000 }) }))
+    × (request_of Three accounts (value_of_line (codes "{\"diff\":true,\"in\":2,\"after\":[\"acct\",-3]}"))
+    ≡ Ok (record { worker = 1; expected = None; command = commands.Diff (Some (record { number = 2 })) (record { after = Some (record { table = 0; key = negsuc 2 }); most = None }) }))
+    × (request_of Three accounts (value_of_line (codes "{\"diff\":true,\"most\":1}"))
+    ≡ Ok (record { worker = 1; expected = None; command = commands.Diff None (record { after = None; most = Some 1 }) }))
+unfolding is_utf8 chars encode_utf8 lex content short_escape punctuate word after_number json.value json.items json.members scan_numeral number_of value_of_json value_of_line digits row_named diff_page diff only_true members_of_request
+diff_of_a_page = (refl, refl, refl)
+
+-- its value comes first, then the generation, the row, how many, and an unknown member
+diff_faulty : (request_of Three accounts (value_of_line (codes "{\"diff\":false,\"in\":-1}")) ≡ Err (At (codes "$.diff") (codes "out of range")))
+    × (request_of Three accounts (value_of_line (codes "{\"diff\":true,\"after\":[],\"in\":-1}")) ≡ Err (At (codes "$.in") (codes "wrong type")))
+    × (request_of Three accounts (value_of_line (codes "{\"diff\":true,\"after\":[],\"most\":0}")) ≡ Err (At (codes "$.after") (codes "wrong type")))
+    × (request_of Three accounts (value_of_line (codes "{\"diff\":true,\"after\":[\"none\",true]}")) ≡ Err (At (codes "$.after[0]") (codes "no such table")))
+    × (request_of Three accounts (value_of_line (codes "{\"diff\":true,\"most\":0,\"after\":[\"acct\",true]}")) ≡ Err (At (codes "$.after[1]") (codes "wrong type")))
+    × (request_of Three accounts (value_of_line (codes "{\"diff\":true,\"of\":1,\"most\":0}")) ≡ Err (At (codes "$.most") (codes "out of range")))
+    × (request_of Three accounts (value_of_line (codes "{\"diff\":true,\"most\":100001}")) ≡ Err (At (codes "$.most") (codes "out of range")))
+    × (request_of Three accounts (value_of_line (codes "{\"diff\":true,\"of\":1,\"at\":1}")) ≡ Err (At (codes "$") (codes "unknown member \"at\"")))
+unfolding is_utf8 chars encode_utf8 lex content short_escape punctuate word after_number json.value json.items json.members scan_numeral number_of value_of_json value_of_line digits row_named diff_page diff only_true members_of_request
+diff_faulty = (refl, refl, refl, refl, refl, refl, refl, refl)
+
+-- what a repair that cancels a slot would come to
+would_read : (request_of Three accounts (value_of_line (codes "{\"would\":[{\"cancel\":2}]}"))
+    ≡ Ok (record { worker = 1; expected = None; command = commands.Would (record { edits = Cancel 2 ∷ [] }) }))
+    × (request_of Three accounts (value_of_line (codes "{\"worker\":7,\"if\":3,\"would\":[]}"))
+    ≡ Ok (record { worker = 7; expected = Some (record { number = 3 }); command = commands.Would (record { edits = [] }) }))
+unfolding is_utf8 chars encode_utf8 lex content short_escape punctuate word after_number json.value json.items json.members scan_numeral number_of value_of_json value_of_line cancel edit would members_of_request
+would_read = (refl, refl)
+
+-- its edits come first, then an unknown member
+would_faulty : (request_of Three accounts (value_of_line (codes "{\"would\":true,\"of\":1}")) ≡ Err (At (codes "$.would") (codes "wrong type")))
+    × (request_of Three accounts (value_of_line (codes "{\"of\":1,\"would\":[{\"cancel\":-2}]}")) ≡ Err (At (codes "$.would[0].cancel") (codes "wrong type")))
+    × (request_of Three accounts (value_of_line (codes "{\"would\":[{}]}")) ≡ Err (At (codes "$.would[0]") (codes "missing one of cancel, replace")))
+    × (request_of Three accounts (value_of_line (codes "{\"would\":[{\"cancel\":2}],\"of\":1}")) ≡ Err (At (codes "$") (codes "unknown member \"of\"")))
+unfolding is_utf8 chars encode_utf8 lex content short_escape punctuate word after_number json.value json.items json.members scan_numeral number_of value_of_json value_of_line digits cancel edit would members_of_request
+would_faulty = (refl, refl, refl, refl)
+
+-- they come behind why, and before forget
+would_among_kinds : (request_of Three accounts (value_of_line (codes "{\"diff\":true,\"why\":true}")) ≡ Err (At (codes "$") (codes "unknown member \"diff\"")))
+    × (request_of Three accounts (value_of_line (codes "{\"would\":[],\"diff\":true}")) ≡ Err (At (codes "$") (codes "unknown member \"would\"")))
+    × (request_of Three accounts (value_of_line (codes "{\"forget\":1,\"would\":[]}")) ≡ Err (At (codes "$") (codes "unknown member \"forget\"")))
+unfolding is_utf8 chars encode_utf8 lex content short_escape punctuate word after_number json.value json.items json.members scan_numeral number_of value_of_json value_of_line slot_page diff_page why diff would only_true members_of_request
+would_among_kinds = (refl, refl, refl)
+
 -- a request of no kind
 no_kind_read : request_of Two [] (value_of_line (codes "{}"))
-    ≡ Err (At (codes "$") (codes "missing one of insert, update, delete, select, preview, do, begin, step, finish, abort, status, slots, changes, tables, why, forget"))
+    ≡ Err (At (codes "$") (codes "missing one of insert, update, delete, select, preview, do, begin, step, finish, abort, status, slots, changes, tables, why, diff, would, forget"))
 unfolding is_utf8 chars encode_utf8 lex content short_escape punctuate word after_number json.value json.items json.members scan_numeral number_of value_of_json value_of_line members_of_request
 no_kind_read = refl
 

@@ -24,6 +24,7 @@ IsJudged tables (commands.Write action) = action_fault tables action.writes ≡ 
 IsJudged tables (commands.Read select at generation page) = select_fault tables select ≡ None
 IsJudged tables (commands.Preview select page) = select_fault tables select ≡ None
 IsJudged tables (commands.Begin told) = AreJudgedEdits tables told.edits
+IsJudged tables (commands.Would told) = AreJudgedEdits tables told.edits
 IsJudged tables command = Unit {0}
 
 -- what a request asks for has been judged, whatever the version and the JSON value that it is read from

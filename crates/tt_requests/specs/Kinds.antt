@@ -5,7 +5,7 @@ use Rattle.tt_grammar.specs.declared.fault.DocFault.{DocFault}
 use Rattle.tt_grammar.specs.Fault.{or_refuse}
 use Rattle.tt_grammar.specs.Decoder.{has}
 use Rattle.tt_requests.specs.declared.kinds.RequestKind.{RequestKind}
-use Rattle.tt_requests.specs.declared.kinds.RequestKind.TheVariants.{Insert, Update, Delete, Select, Preview, Do, Begin, Step, Finish, Abort, Status, Slots, Changes, Tables, Why, Forget}
+use Rattle.tt_requests.specs.declared.kinds.RequestKind.TheVariants.{Insert, Update, Delete, Select, Preview, Do, Begin, Step, Finish, Abort, Status, Slots, Changes, Tables, Why, Diff, Would, Forget}
 
 -- each kind with the member that names it, in the order in which they are looked for
 abbrev pub kinds : List (List ℕ × RequestKind)
@@ -25,6 +25,8 @@ kinds =
     ∷ (codes "changes", Changes)
     ∷ (codes "tables", Tables)
     ∷ (codes "why", Why)
+    ∷ (codes "diff", Diff)
+    ∷ (codes "would", Would)
     ∷ (codes "forget", Forget)
     ∷ []
 

@@ -1,5 +1,5 @@
 -- The questions of a session about its slots and its calls.
-use Rattle.std.specs.Prelude.{ℕ, ◌+◌, nat_lt, List, [], ◌∷◌, Option, None, Some, if◌then◌else◌, Result, Ok, codes}
+use Rattle.std.specs.Prelude.{ℕ, ◌+◌, nat_lt, false, List, [], ◌∷◌, Option, None, Some, unwrap_or, if◌then◌else◌, Result, Ok, codes}
 use Rattle.std.specs.Str.{bytes_eq}
 use Rattle.serde_json.specs.Data.{Data}
 use Rattle.tt_requests.specs.declared.told.ToldTime.{ToldTime}
@@ -8,9 +8,14 @@ use Rattle.tt_values.specs.Tables.{Tables}
 use Rattle.tt_grammar.specs.declared.fault.DocFault.{DocFault}
 use Rattle.tt_grammar.specs.declared.statements.Context.TheVariants as contexts
 use Rattle.tt_grammar.specs.Fault.{◌>>=◌, refuse, or_refuse, with_path, item_path}
-use Rattle.tt_grammar.specs.Decoder.{text, int, count_within, member, optional}
+use Rattle.tt_grammar.specs.Decoder.{text, flag, int, count, count_within, member, optional}
 use Rattle.tt_grammar.specs.Conditions.{pair, table_named}
 use Rattle.tt_grammar.specs.Statements.{no_members_at}
+use Rattle.tt_requests.specs.declared.questions.Moment.{Moment}
+use Rattle.tt_requests.specs.declared.questions.Moment.TheVariants as moments
+use Rattle.tt_requests.specs.declared.request.CallKind.{CallKind}
+use Rattle.tt_requests.specs.declared.request.CallKind.TheVariants as call_kinds
+use Rattle.tt_requests.specs.declared.request.ChangePage.{ChangePage}
 use Rattle.tt_requests.specs.declared.request.Command.{Command}
 use Rattle.tt_requests.specs.declared.request.Command.TheVariants as commands
 use Rattle.tt_requests.specs.Told.{named_time}
@@ -22,6 +27,10 @@ max_worker = 4294967295
 -- the number of a worker
 abbrev pub worker_number : Data → Result ℕ DocFault
 worker_number v = count_within 1 max_worker v
+
+-- the largest number of rows, re-executed slots, differences, or changed replies that a page may ask for
+abbrev pub max_page : ℕ
+max_page = 100000
 
 -- how far the last slot of a question may be behind the first one
 abbrev pub max_span : ℕ
@@ -56,19 +65,49 @@ slots tables v = do
   _ ← no_members_at contexts.Request (codes "of" ∷ codes "row" ∷ codes "slots" ∷ []) v
   Ok (commands.Slots span.0 span.1 worker row)
 
--- which changed replies a text asks for: those of now, or those of the next generation
-abbrev pub changes_named : List ℕ → Option Command
-changes_named name = if bytes_eq name (codes "now") then Some commands.Changes else (if bytes_eq name (codes "next") then Some commands.NextChanges else None)
+-- when the calls would be answered again whose changed replies a text asks for: now, or after the repair under way
+abbrev pub changes_named : List ℕ → Option Moment
+changes_named name = if bytes_eq name (codes "now") then Some moments.Now else (if bytes_eq name (codes "next") then Some moments.Next else None)
 
--- which changed replies are asked for
-unfoldable pub changes_asked : Data → Result Command DocFault
+-- when the calls would be answered again whose changed replies are asked for
+unfoldable pub changes_asked : Data → Result Moment DocFault
 changes_asked v = do
   name ← text v
   or_refuse (codes "out of range") (changes_named name)
 
--- a question about changed replies
+-- the kind of calls that a text names
+abbrev pub call_kind_named : List ℕ → Option CallKind
+call_kind_named name = if bytes_eq name (codes "writes") then Some call_kinds.Writes else (if bytes_eq name (codes "reads") then Some call_kinds.Reads else None)
+
+-- a kind of calls
+unfoldable pub call_kind : Data → Result CallKind DocFault
+call_kind v = do
+  name ← text v
+  or_refuse (codes "out of range") (call_kind_named name)
+
+-- a page of changed replies: of which worker and of which kind of calls, the call behind which it begins, how many it has at most, and whether what was asked for is told. Each may be left out
+unfoldable pub change_page : Data → Result ChangePage DocFault
+change_page v = do
+  worker ← optional (codes "of") worker_number v
+  only ← optional (codes "only") call_kind v
+  after ← optional (codes "after") count v
+  most ← optional (codes "most") (count_within 1 max_page) v
+  asked ← optional (codes "asked") flag v
+  Ok (record { worker = worker; only = only; after = after; most = most; asked = unwrap_or asked false })
+
+-- the page of all changed replies, told without what was asked for
+abbrev pub every_change : ChangePage
+every_change = record { worker = None; only = None; after = None; most = None; asked = false }
+
+-- the question about the changed replies of a moment
+abbrev pub changes_at : Moment → ChangePage → Command
+changes_at moments.Now page = commands.Changes page
+changes_at moments.Next page = commands.NextChanges page
+
+-- a question about changed replies: of which moment, and the page
 unfoldable pub changes : Data → Result Command DocFault
 changes v = do
-  asked ← member (codes "changes") changes_asked v
-  _ ← no_members_at contexts.Request (codes "changes" ∷ []) v
-  Ok asked
+  moment ← member (codes "changes") changes_asked v
+  page ← change_page v
+  _ ← no_members_at contexts.Request (codes "after" ∷ codes "asked" ∷ codes "changes" ∷ codes "most" ∷ codes "of" ∷ codes "only" ∷ []) v
+  Ok (changes_at moment page)

@@ -15,11 +15,9 @@ use Rattle.tt_requests.specs.declared.request.Command.{Command}
 use Rattle.tt_requests.specs.declared.request.Command.TheVariants as commands
 use Rattle.tt_requests.specs.declared.request.Page.{Page}
 use Rattle.tt_requests.specs.declared.request.SlotPage.{SlotPage}
+use Rattle.tt_requests.specs.declared.request.DiffPage.{DiffPage}
 use Rattle.tt_requests.specs.Told.{named_time, named_generation}
-
--- the largest number of rows, or of re-executed slots, that a page may ask for
-abbrev pub max_page : ℕ
-max_page = 100000
+use Rattle.tt_requests.specs.Questions.{max_page, row_named}
 
 -- a page of rows: the key after which it begins, and how many rows it has at most, each of which may be left out
 unfoldable pub page : Data → Result Page DocFault
@@ -32,6 +30,13 @@ page v = do
 unfoldable pub slot_page : Data → Result SlotPage DocFault
 slot_page v = do
   after ← optional (codes "after") named_time v
+  most ← optional (codes "most") (count_within 1 max_page) v
+  Ok (record { after = after; most = most })
+
+-- a page of rows that differ: the row behind which it begins, by table and then by key, and how many rows it has at most, each of which may be left out
+unfoldable pub diff_page : Tables → Data → Result DiffPage DocFault
+diff_page tables v = do
+  after ← optional (codes "after") (row_named tables) v
   most ← optional (codes "most") (count_within 1 max_page) v
   Ok (record { after = after; most = most })
 

@@ -20,7 +20,7 @@ use Rattle.tt_requests.specs.declared.request.Request.{Request}
 use Rattle.tt_requests.specs.Kinds.{kind_of}
 use Rattle.tt_requests.specs.Told.{named_time, named_generation}
 use Rattle.tt_requests.specs.Edits.{edits}
-use Rattle.tt_requests.specs.Reads.{slot_page, read, preview}
+use Rattle.tt_requests.specs.Reads.{slot_page, diff_page, read, preview}
 use Rattle.tt_requests.specs.Questions.{worker_number, slots, changes}
 
 -- a write of its own, as an action of one, which isn't whole
@@ -103,6 +103,22 @@ why v = do
   _ ← no_members_at contexts.Request (codes "after" ∷ codes "in" ∷ codes "most" ∷ codes "why" ∷ []) v
   Ok (commands.Why generation page)
 
+-- which rows differ between the generations: the generation that a repair closed, and the page. All but the name may be left out
+unfoldable pub diff : Tables → Data → Result Command DocFault
+diff tables v = do
+  _ ← member (codes "diff") only_true v
+  generation ← optional (codes "in") named_generation v
+  page ← diff_page tables v
+  _ ← no_members_at contexts.Request (codes "after" ∷ codes "diff" ∷ codes "in" ∷ codes "most" ∷ []) v
+  Ok (commands.Diff generation page)
+
+-- what a repair would come to: its edits
+unfoldable pub would : Version → Tables → Data → Result Command DocFault
+would version tables v = do
+  edits ← member (codes "would") (edits version tables) v
+  _ ← no_members_at contexts.Request (codes "would" ∷ []) v
+  Ok (commands.Would (record { edits = edits }))
+
 -- the command of an object of this kind
 abbrev pub command_of : Version → Tables → RequestKind → Data → Result Command DocFault
 command_of version tables kinds.Insert v = one_write (insert tables contexts.Request v)
@@ -120,6 +136,8 @@ command_of version tables kinds.Slots v = slots tables v
 command_of version tables kinds.Changes v = changes v
 command_of version tables kinds.Tables v = bare (codes "tables") commands.Tables v
 command_of version tables kinds.Why v = why v
+command_of version tables kinds.Diff v = diff tables v
+command_of version tables kinds.Would v = would version tables v
 command_of version tables kinds.Forget v = forget v
 
 -- the command of an object, by the first of its kinds

@@ -2,13 +2,13 @@
 ghost use Rattle.std.specs.Prelude.{Ok};
 ghost use Rattle.tt_json.specs.Tape.{IsValue, value_at};
 ghost use Rattle.tt_grammar.specs.Fault.{Gives};
-ghost use Rattle.tt_requests.specs.Requests.{one_write, several_writes, begin, step, end_of_repair, finish, abort, why, forget, only_true, bare, command_of, command};
+ghost use Rattle.tt_requests.specs.Requests.{one_write, several_writes, begin, step, end_of_repair, finish, abort, why, diff, would, forget, only_true, bare, command_of, command};
 
 use crate::MAX_STEPS;
 use crate::edits::EditsDecoder;
 use crate::kinds::RequestKind;
 use crate::questions::{WORKER, changes, slots};
-use crate::reads::{preview, read, slot_page};
+use crate::reads::{diff_page, preview, read, slot_page};
 use crate::request::{Command, ToldEdits};
 use crate::told::{ToldGenerationDecoder, ToldTimeDecoder};
 use json::Tape;
@@ -76,6 +76,8 @@ fn command_of<V: JsonValue>(
         RequestKind::Changes => changes(alloc, value),
         RequestKind::Tables => bare(alloc, "tables", Command::Tables, value),
         RequestKind::Why => why(alloc, value),
+        RequestKind::Diff => diff(alloc, catalog, value),
+        RequestKind::Would => would(alloc, version, catalog, value),
         RequestKind::Forget => forget(alloc, value),
     }
 }
@@ -170,6 +172,35 @@ fn why<V: JsonValue>(alloc: Global, value: &V) -> Result<Command, DocFault>
         &["if", "worker", "after", "in", "most", "why"],
     )?;
     Ok(Command::Why { generation, page })
+}
+
+#[tactic(auto, unfolding(crate::specs::Requests::diff))]
+fn diff<V: JsonValue>(alloc: Global, catalog: &Catalog, value: &V) -> Result<Command, DocFault>
+    ensures { Gives result (diff catalog.now (V.json value.now)) }
+{
+    member(alloc, value, "diff", &OnlyTrueDecoder)?;
+    let generation = optional(alloc, value, "in", &ToldGenerationDecoder)?;
+    let page = diff_page(alloc, catalog, value)?;
+    no_members_but(
+        alloc,
+        value,
+        &["if", "worker", "after", "diff", "in", "most"],
+    )?;
+    Ok(Command::Diff { generation, page })
+}
+
+#[tactic(auto, unfolding(crate::specs::Requests::would))]
+fn would<V: JsonValue>(
+    alloc: Global,
+    version: Version,
+    catalog: &Catalog,
+    value: &V,
+) -> Result<Command, DocFault>
+    ensures { Gives result (would version catalog.now (V.json value.now)) }
+{
+    let edits = member(alloc, value, "would", &EditsDecoder { version, catalog })?;
+    no_members_but(alloc, value, &["if", "worker", "would"])?;
+    Ok(Command::Would(ToldEdits { edits }))
 }
 
 #[tactic(auto, unfolding(crate::specs::Requests::forget))]

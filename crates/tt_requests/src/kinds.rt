@@ -4,10 +4,10 @@ use std::alloc::Global;
 use tt_grammar::DocFault;
 
 const NO_KIND: &str =
-    "missing one of insert, update, delete, select, preview, do, begin, step, finish, abort, status, slots, changes, tables, why, forget";
+    "missing one of insert, update, delete, select, preview, do, begin, step, finish, abort, status, slots, changes, tables, why, diff, would, forget";
 
 /// Each kind with the member that names it, in the order in which they are looked for.
-static KINDS: [(&str, RequestKind); 16] = [
+static KINDS: [(&str, RequestKind); 18] = [
     ("insert", RequestKind::Insert),
     ("update", RequestKind::Update),
     ("delete", RequestKind::Delete),
@@ -23,6 +23,8 @@ static KINDS: [(&str, RequestKind); 16] = [
     ("changes", RequestKind::Changes),
     ("tables", RequestKind::Tables),
     ("why", RequestKind::Why),
+    ("diff", RequestKind::Diff),
+    ("would", RequestKind::Would),
     ("forget", RequestKind::Forget),
 ];
 
@@ -44,6 +46,8 @@ pub(crate) enum RequestKind {
     Changes,
     Tables,
     Why,
+    Diff,
+    Would,
     Forget,
 }
 

@@ -26,7 +26,7 @@ pub use lines::{is_blank, is_passed_over};
 pub use log_opening::LogOpening;
 pub use numbering::{NUMBER_LIMIT, Numbering};
 pub use opening::Opening;
-pub use request::{Command, Page, Request, SlotPage, ToldEdits};
+pub use request::{CallKind, ChangePage, Command, DiffPage, Page, Request, SlotPage, ToldEdits};
 pub use session_line::SessionLine;
 pub use told::{ToldGeneration, ToldTime};
 pub use told_edits::{missing_slot, own_edits};
@@ -46,7 +46,8 @@ pub const MAX_GROUND_SLOTS: u32 = 1_000_000;
 /// The largest number of steps of a repair that a request asks for.
 pub const MAX_STEPS: u32 = 10_000;
 
-/// The largest number of rows, or of re-executed slots, that a page asks for.
+/// The largest number of rows, re-executed slots, differences, or changed replies that a page asks
+/// for.
 pub const MAX_PAGE: u32 = 100_000;
 
 /// How far the last slot that a request asks for may be behind the first one.

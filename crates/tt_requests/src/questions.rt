@@ -1,16 +1,17 @@
 //! Reading of questions about slots and about calls.
 ghost use Rattle.std.specs.Prelude.{◌≡◌};
 ghost use Rattle.tt_grammar.specs.Fault.{Gives};
-ghost use Rattle.tt_requests.specs.Questions.{within_span, span, row_named, slots, changes_named, changes_asked, changes};
+ghost use Rattle.tt_requests.specs.Questions.{within_span, span, row_named, slots, changes_at, changes_named, changes_asked, call_kind_named, call_kind, change_page, changes};
 
 use crate::MAX_SPAN;
-use crate::request::Command;
+use crate::reads::MOST;
+use crate::request::{CallKind, ChangePage, Command};
 use crate::told::{ToldTime, ToldTimeDecoder};
 use std::alloc::Global;
 use tt_grammar::DocFault;
 use tt_grammar::decoding::{
-    CountDecoder, Decoder, IntDecoder, OUT_OF_RANGE, TableNameDecoder, item, member,
-    no_members_but, optional, pair, text,
+    AnyCountDecoder, CountDecoder, Decoder, FlagDecoder, IntDecoder, OUT_OF_RANGE,
+    TableNameDecoder, item, member, no_members_but, optional, pair, text,
 };
 use tt_json::JsonValue;
 use tt_values::{Catalog, RowId};
@@ -79,8 +80,8 @@ fn within_span(
 
 /// A row, by the name of its table and its key.
 #[derive(Drop)]
-struct RowIdDecoder<'a> {
-    catalog: &'a Catalog,
+pub(crate) struct RowIdDecoder<'a> {
+    pub(crate) catalog: &'a Catalog,
 }
 
 impl Decoder for RowIdDecoder<'_> {
@@ -105,36 +106,111 @@ impl Decoder for RowIdDecoder<'_> {
 pub(crate) fn changes<V: JsonValue>(alloc: Global, value: &V) -> Result<Command, DocFault>
     ensures { Gives result (changes (V.json value.now)) }
 {
-    let asked = member(alloc, value, "changes", &ChangesDecoder)?;
-    no_members_but(alloc, value, &["if", "worker", "changes"])?;
-    Ok(asked)
+    let moment = member(alloc, value, "changes", &ChangesDecoder)?;
+    let page = change_page(alloc, value)?;
+    no_members_but(
+        alloc,
+        value,
+        &[
+            "if", "worker", "after", "asked", "changes", "most", "of", "only",
+        ],
+    )?;
+    Ok(moment.changes(page))
 }
 
-/// Which changed replies are asked for.
+/// When calls would be answered again.
+#[derive(Clone, Copy)]
+enum Moment {
+    Now,
+    /// After the repair under way, as far as it is.
+    Next,
+}
+
+impl Moment {
+    /// The question about the changed replies of this moment.
+    fn changes(self, page: ChangePage) -> Command
+        ensures { result ≡ changes_at self page }
+    {
+        match self {
+            Moment::Now => Command::Changes(page),
+            Moment::Next => Command::NextChanges(page),
+        }
+    }
+}
+
+/// When the calls would be answered again whose changed replies are asked for.
 #[derive(Drop)]
 struct ChangesDecoder;
 
 impl Decoder for ChangesDecoder {
-    type Output = Command;
+    type Output = Moment;
 
     ghost meaning = { λ _. changes_asked };
 
     #[tactic(auto, unfolding(crate::specs::Questions::changes_asked))]
-    fn decode<V: JsonValue>(&self, alloc: Global, value: &V) -> Result<Command, DocFault> {
+    fn decode<V: JsonValue>(&self, alloc: Global, value: &V) -> Result<Moment, DocFault> {
         let name = text(alloc, value)?;
         match changes_named(name) {
-            Some(asked) => Ok(asked),
+            Some(moment) => Ok(moment),
             None => Err(DocFault::here(alloc, OUT_OF_RANGE)),
         }
     }
 }
 
-fn changes_named(name: &str) -> Option<Command>
+fn changes_named(name: &str) -> Option<Moment>
     ensures { result ≡ changes_named name.now }
 {
     match name {
-        "now" => Some(Command::Changes),
-        "next" => Some(Command::NextChanges),
+        "now" => Some(Moment::Now),
+        "next" => Some(Moment::Next),
+        _ => None,
+    }
+}
+
+/// The page of changed replies of an object.
+#[tactic(auto, unfolding(crate::specs::Questions::change_page))]
+fn change_page<V: JsonValue>(alloc: Global, value: &V) -> Result<ChangePage, DocFault>
+    ensures { Gives result (change_page (V.json value.now)) }
+{
+    let worker = optional(alloc, value, "of", &WORKER)?;
+    let only = optional(alloc, value, "only", &CallKindDecoder)?;
+    let after = optional(alloc, value, "after", &AnyCountDecoder)?;
+    let most = optional(alloc, value, "most", &MOST)?;
+    let asked = optional(alloc, value, "asked", &FlagDecoder)?;
+    Ok(ChangePage {
+        worker,
+        only,
+        after,
+        most,
+        asked: asked.unwrap_or(false),
+    })
+}
+
+/// A kind of call.
+#[derive(Drop)]
+struct CallKindDecoder;
+
+impl Decoder for CallKindDecoder {
+    type Output = CallKind;
+
+    ghost meaning = { λ _. call_kind };
+
+    #[tactic(auto, unfolding(crate::specs::Questions::call_kind))]
+    fn decode<V: JsonValue>(&self, alloc: Global, value: &V) -> Result<CallKind, DocFault> {
+        let name = text(alloc, value)?;
+        match call_kind_named(name) {
+            Some(kind) => Ok(kind),
+            None => Err(DocFault::here(alloc, OUT_OF_RANGE)),
+        }
+    }
+}
+
+fn call_kind_named(name: &str) -> Option<CallKind>
+    ensures { result ≡ call_kind_named name.now }
+{
+    match name {
+        "writes" => Some(CallKind::Writes),
+        "reads" => Some(CallKind::Reads),
         _ => None,
     }
 }

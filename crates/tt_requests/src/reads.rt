@@ -1,9 +1,10 @@
 //! Reading of selects and previews, which may ask for one page of their rows, and of pages.
 ghost use Rattle.tt_grammar.specs.Fault.{Gives};
-ghost use Rattle.tt_requests.specs.Reads.{page, slot_page, read, preview};
+ghost use Rattle.tt_requests.specs.Reads.{page, slot_page, diff_page, read, preview};
 
 use crate::MAX_PAGE;
-use crate::request::{Command, Page, SlotPage};
+use crate::questions::RowIdDecoder;
+use crate::request::{Command, DiffPage, Page, SlotPage};
 use crate::told::{ToldGenerationDecoder, ToldTimeDecoder};
 use std::alloc::Global;
 use tt_grammar::DocFault;
@@ -14,7 +15,8 @@ use tt_grammar::decoding::{
 use tt_json::JsonValue;
 use tt_values::{Catalog, Select};
 
-const MOST: CountDecoder = CountDecoder {
+/// How much a page has at most.
+pub(crate) const MOST: CountDecoder = CountDecoder {
     min: 1,
     max: MAX_PAGE,
 };
@@ -89,4 +91,18 @@ pub(crate) fn slot_page<V: JsonValue>(alloc: Global, value: &V) -> Result<SlotPa
     let after = optional(alloc, value, "after", &ToldTimeDecoder)?;
     let most = optional(alloc, value, "most", &MOST)?;
     Ok(SlotPage { after, most })
+}
+
+/// The page of rows that differ of an object.
+#[tactic(auto, unfolding(crate::specs::Reads::diff_page))]
+pub(crate) fn diff_page<V: JsonValue>(
+    alloc: Global,
+    catalog: &Catalog,
+    value: &V,
+) -> Result<DiffPage, DocFault>
+    ensures { Gives result (diff_page catalog.now (V.json value.now)) }
+{
+    let after = optional(alloc, value, "after", &RowIdDecoder { catalog })?;
+    let most = optional(alloc, value, "most", &MOST)?;
+    Ok(DiffPage { after, most })
 }

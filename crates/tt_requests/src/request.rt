@@ -78,9 +78,9 @@ pub enum Command {
         row: Option<RowId>,
     },
     /// The calls that are answered differently now.
-    Changes,
+    Changes(ChangePage),
     /// The calls that are answered differently in the next generation, as far as the repair is.
-    NextChanges,
+    NextChanges(ChangePage),
     /// The tables, and how much is kept.
     Tables,
     /// Why slots were re-executed.
@@ -89,6 +89,15 @@ pub enum Command {
         generation: Option<ToldGeneration>,
         page: SlotPage,
     },
+    /// Which rows differ between the generations.
+    Diff {
+        /// Those of the repair that closed this generation, or of the one under way where none is
+        /// given.
+        generation: Option<ToldGeneration>,
+        page: DiffPage,
+    },
+    /// What a repair with at most [`MAX_EDITS`](tt_grammar::MAX_EDITS) edits would come to.
+    Would(ToldEdits),
     /// What lies before a time is forgotten.
     Forget(ToldTime),
 }
@@ -112,10 +121,12 @@ impl Command {
             Command::Preview { .. } => true,
             Command::Status => true,
             Command::Slots { .. } => true,
-            Command::Changes => true,
-            Command::NextChanges => true,
+            Command::Changes(_) => true,
+            Command::NextChanges(_) => true,
             Command::Tables => true,
             Command::Why { .. } => true,
+            Command::Diff { .. } => true,
+            Command::Would(_) => true,
         }
     }
 
@@ -163,6 +174,55 @@ pub struct SlotPage {
     /// The slots behind this one, where it is given.
     pub after: Option<ToldTime>,
     /// The first slots, this many, from 1 to [`MAX_PAGE`](crate::MAX_PAGE), where it is given.
+    pub most: Option<u32>,
+}
+
+/// Which of the changed replies are asked for, and whether their calls are told in full.
+#[derive(Clone, Copy, Debug, PartialEq, Eq)]
+pub struct ChangePage {
+    /// Those of calls of one worker, where it is given.
+    pub worker: Option<u32>,
+    /// Those of calls of one kind, where it is given.
+    pub only: Option<CallKind>,
+    /// Those of calls behind this one, where it is given.
+    pub after: Option<u64>,
+    /// The first ones, this many, from 1 to [`MAX_PAGE`](crate::MAX_PAGE), where it is given.
+    pub most: Option<u32>,
+    /// Whether each is told with its worker and with what was asked for.
+    pub asked: bool,
+}
+
+impl ChangePage {
+    ghost use Rattle.std.specs.Prelude.{◌≡◌};
+    ghost use Rattle.tt_requests.specs.Questions.{every_change};
+
+    /// All changed replies, told without what was asked for.
+    pub const fn every() -> ChangePage
+        ensures { result ≡ every_change }
+    {
+        ChangePage {
+            worker: None,
+            only: None,
+            after: None,
+            most: None,
+            asked: false,
+        }
+    }
+}
+
+/// A kind of call whose answer can change.
+#[derive(Clone, Copy, Debug, PartialEq, Eq)]
+pub enum CallKind {
+    Writes,
+    Reads,
+}
+
+/// Which of the rows that differ are asked for.
+#[derive(Clone, Copy, Debug, PartialEq, Eq)]
+pub struct DiffPage {
+    /// The rows behind this one, by table and then by key, where it is given.
+    pub after: Option<RowId>,
+    /// The first rows, this many, from 1 to [`MAX_PAGE`](crate::MAX_PAGE), where it is given.
     pub most: Option<u32>,
 }
 

@@ -4,6 +4,7 @@ use Rattle.std.specs.Option.{option_map, unwrap_or}
 use Rattle.std.proofs.lemmas.List.{length-replicate}
 use Rattle.tt_values.specs.declared.reply.Reply.{Reply}
 use Rattle.tt_values.specs.declared.statement.Select.{Select}
+use Rattle.tt_repair_laws.specs.declared.edit.Edit.{Edit}
 use Rattle.tt_db.specs.declared.event.Event.{Event}
 use Rattle.tt_db.specs.declared.event.Event.TheVariants as events
 use Rattle.tt_db.specs.declared.errors.DbError.{DbError}
@@ -16,6 +17,8 @@ use Rattle.tt_requests.specs.declared.request.Command.{Command}
 use Rattle.tt_requests.specs.declared.request.Command.TheVariants as commands
 use Rattle.tt_requests.specs.declared.request.Page.{Page}
 use Rattle.tt_requests.specs.declared.request.SlotPage.{SlotPage}
+use Rattle.tt_requests.specs.declared.request.DiffPage.{DiffPage}
+use Rattle.tt_requests.specs.declared.request.ToldEdits.{ToldEdits}
 use Rattle.tt_requests.specs.declared.told.ToldTime.{ToldTime}
 use Rattle.tt_requests.specs.declared.told.ToldGeneration.{ToldGeneration}
 use Rattle.tt_requests.specs.Numbers.{Numbering, own_time, own_generation}
@@ -30,6 +33,8 @@ use Rattle.tt_requests.specs.Asked.{asks_read_only, is_read_only, repair_worker_
 use Rattle.tt_commands.specs.Reading.{read, previewed_by, selected_by}
 use Rattle.tt_commands.specs.AskedRepairs.{asked_repair, answer_of}
 use Rattle.tt_commands.specs.CauseEntries.{causes_answer, why}
+use Rattle.tt_commands.specs.DiffEntries.{differences_answer, diff}
+use Rattle.tt_commands.specs.Trials.{trial_answer, trial, would}
 use Rattle.tt_commands.specs.ToldRequests.{forgotten_in, asks_for_forgotten, read_at, read_in, read_as_told, missing_if_idle, unless_missing}
 use Rattle.tt_requests.specs.ToldEdits.{own_edit}
 use Rattle.tt_commands.specs.Changes.{forgotten_by}
@@ -135,6 +140,23 @@ answer-stays session answer (Err refusal) = refl
 pub why-stays : (session : OpenSession) (generation : Option ToldGeneration) (page : SlotPage) → outcome_base (base_of session) (why session generation page) ≡ base_of session
 why-stays session generation page = answer-stays session (causes_answer session page) (asked_repair session generation)
 
+pub diff-stays : (session : OpenSession) (generation : Option ToldGeneration) (page : DiffPage) → outcome_base (base_of session) (diff session generation page) ≡ base_of session
+diff-stays session generation page = answer-stays session (differences_answer session page) (asked_repair session generation)
+
+pub would-stays : (session : OpenSession) (told : ToldEdits) → outcome_base (base_of session) (would session told) ≡ base_of session
+would-stays session told = by_missing (missing_if_idle session told.edits)
+  where
+    edits : List Edit
+    edits = map (own_edit session.numbering) told.edits
+
+    by_refusal : (refusal : Option DbError) → outcome_base (base_of session) (unless_refused refusal (trial_answer session edits)) ≡ base_of session
+    by_refusal None = refl
+    by_refusal (Some error) = refl
+
+    by_missing : (missing : Option ToldTime) → outcome_base (base_of session) (unless_missing missing (trial session edits)) ≡ base_of session
+    by_missing None = by_refusal (refusal_in_session session.database (events.Begin edits))
+    by_missing (Some slot) = refl
+
 pub missing-goes : (base : Base) (missing : Option ToldTime) (outcome : Result Answered Refusal) → Goes base (outcome_base base outcome) → Goes base (outcome_base base (unless_missing missing outcome))
 missing-goes base None outcome goes = goes
 missing-goes base (Some slot) outcome goes = inl refl
@@ -168,10 +190,12 @@ carried-goes session worker (commands.Finish told) = refused-goes (base_of sessi
 carried-goes session worker (commands.Abort told) = refused-goes (base_of session) (unless_repairing (state_in session).phase) _ (event-goes (base_of session) worker events.Abort)
 carried-goes session worker commands.Status = inl refl
 carried-goes session worker (commands.Slots from to by row) = inl refl
-carried-goes session worker commands.Changes = inl refl
-carried-goes session worker commands.NextChanges = refused-goes (base_of session) (unless_repairing (state_in session).phase) _ (inl refl)
+carried-goes session worker (commands.Changes page) = inl refl
+carried-goes session worker (commands.NextChanges page) = refused-goes (base_of session) (unless_repairing (state_in session).phase) _ (inl refl)
 carried-goes session worker commands.Tables = inl refl
 carried-goes session worker (commands.Why generation page) = inl (why-stays session generation page)
+carried-goes session worker (commands.Diff generation page) = inl (diff-stays session generation page)
+carried-goes session worker (commands.Would told) = inl (would-stays session told)
 carried-goes session worker (commands.Forget time) = forget-goes session time
 
 pub moved-goes : (base : Base) (now : Option ℕ) (outcome : Result Answered Refusal) → Goes base (outcome_base base outcome) → Goes base (outcome_base base (unless_moved now outcome))
@@ -227,10 +251,12 @@ module _ (base : Base) (v w : Bool) (r q : List Record) (m l n k : ℕ) where
   carried-same worker (commands.Abort told) = refused-same base (unless_repairing (state_in one).phase) _ _ refl
   carried-same worker commands.Status = refl
   carried-same worker (commands.Slots from to by row) = refl
-  carried-same worker commands.Changes = refl
-  carried-same worker commands.NextChanges = refused-same base (unless_repairing (state_in one).phase) _ _ refl
+  carried-same worker (commands.Changes page) = refl
+  carried-same worker (commands.NextChanges page) = refused-same base (unless_repairing (state_in one).phase) _ _ refl
   carried-same worker commands.Tables = refl
   carried-same worker (commands.Why generation page) = why-stays one generation page ∙ sym (why-stays other generation page)
+  carried-same worker (commands.Diff generation page) = diff-stays one generation page ∙ sym (diff-stays other generation page)
+  carried-same worker (commands.Would told) = would-stays one told ∙ sym (would-stays other told)
   carried-same worker (commands.Forget time) = forget-same base (forget_refusal one time) _ _ (forgotten-same (forgetting_of one time))
 
   pub moved-same : (now : Option ℕ) (a b : Result Answered Refusal) → outcome_base base a ≡ outcome_base base b → outcome_base base (unless_moved now a) ≡ outcome_base base (unless_moved now b)
@@ -297,10 +323,12 @@ carried-stays session worker (commands.Finish told) reads = cc
 carried-stays session worker (commands.Abort told) reads = cc
 carried-stays session worker commands.Status reads = refl
 carried-stays session worker (commands.Slots from to by row) reads = refl
-carried-stays session worker commands.Changes reads = refl
-carried-stays session worker commands.NextChanges reads = refused-stays (base_of session) (unless_repairing (state_in session).phase) _ refl
+carried-stays session worker (commands.Changes page) reads = refl
+carried-stays session worker (commands.NextChanges page) reads = refused-stays (base_of session) (unless_repairing (state_in session).phase) _ refl
 carried-stays session worker commands.Tables reads = refl
 carried-stays session worker (commands.Why generation page) reads = why-stays session generation page
+carried-stays session worker (commands.Diff generation page) reads = diff-stays session generation page
+carried-stays session worker (commands.Would told) reads = would-stays session told
 carried-stays session worker (commands.Forget time) reads = cc
 
 pub request-stays : (session : OpenSession) (asked : Result Request DocFault) → asks_read_only asked ≡ true → request_base session asked ≡ base_of session

@@ -85,10 +85,12 @@ carried-comes session worker (commands.Finish told) other =
 carried-comes session worker (commands.Abort told) other = refused-comes (base_of session) (unless_repairing (state_in session).phase) _ (event-comes session.database worker events.Abort)
 carried-comes session worker commands.Status other = comes-self session.database
 carried-comes session worker (commands.Slots from to by row) other = comes-self session.database
-carried-comes session worker commands.Changes other = comes-self session.database
-carried-comes session worker commands.NextChanges other = refused-comes (base_of session) (unless_repairing (state_in session).phase) _ (comes-self session.database)
+carried-comes session worker (commands.Changes page) other = comes-self session.database
+carried-comes session worker (commands.NextChanges page) other = refused-comes (base_of session) (unless_repairing (state_in session).phase) _ (comes-self session.database)
 carried-comes session worker commands.Tables other = comes-self session.database
 carried-comes session worker (commands.Why generation page) other = stays-comes (base_of session) _ (carried-stays session worker (commands.Why generation page) refl)
+carried-comes session worker (commands.Diff generation page) other = stays-comes (base_of session) _ (carried-stays session worker (commands.Diff generation page) refl)
+carried-comes session worker (commands.Would told) other = stays-comes (base_of session) _ (carried-stays session worker (commands.Would told) refl)
 carried-comes session worker (commands.Forget time) other = cc
 
 base-comes : (session : OpenSession) (asked : Result Request DocFault) → asks_to_forget asked ≡ false → Comes (base_of session) (request_base session asked)

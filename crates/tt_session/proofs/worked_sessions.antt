@@ -7,3 +7,4 @@ mod Repairs
 mod Whole
 mod Room
 mod Causes
+mod Trials

@@ -1,10 +1,13 @@
-ghost use Rattle.std.specs.Prelude.{◌≡◌, ◌+◌, ◌-◌, [], length, Ok, IfOk, IfErr, IfSome, OnErr, IsTrue, IsFalse, ◌≤◌, ◌++◌, vec_len, vec_capacity};
+ghost use Rattle.std.specs.Prelude.{◌≡◌, ◌+◌, ◌-◌, [], length, None, Ok, IfOk, IfErr, IfSome, OnOk, OnErr, IsTrue, IsFalse, ◌≤◌, ◌++◌, vec_len, vec_capacity};
 ghost use Rattle.std.specs.Option.{option_copied, option_map};
 ghost use mathlib.Core.List.{IsPrefix};
 ghost use Rattle.tt_generations.specs.TwoGenerations.{done_of};
 ghost use Rattle.tt_generations.specs.SlotCauses.{cause_told};
 ghost use Rattle.tt_db.specs.Database.{state_of, now_in, nth_item, repair_of, right_answer, right_answer_at, right_answer_in, right_preview_of};
 ghost use Rattle.tt_db.specs.Causes.{cause_of, cause_in_of};
+ghost use Rattle.tt_db.specs.Differences.{right_diff, right_diff_in, TellsDiff, TellsDiffPage};
+ghost use Rattle.tt_db.specs.Errors.{refusal_of_error};
+ghost use Rattle.tt_db.specs.Trials.{tried_database, tried_refusal};
 ghost use Rattle.tt_db.specs.State.{after, IsLegal};
 ghost use Rattle.tt_store.specs.History.{places_of};
 ghost use Rattle.tt_store.specs.Calls.{events_of, IsInWay, numbers_from};
@@ -23,8 +26,8 @@ use left_right::reader::Reader;
 use std::alloc::{AllocError, Global};
 use std::marker::Model;
 use std::sync::ledger::{Book, Share};
-use tt_db::{Cause, Db, Entry, Progress, ReadError};
-use tt_values::{Reply, Select, Shared, check_select};
+use tt_db::{Cause, Db, DbError, Edit, Entry, FirstChanges, Progress, ReadError, RowChange};
+use tt_values::{Items, Reply, Select, Shared, check_select};
 
 /// A worker of a store. It has seen a front, which is a beginning of the one history and only
 /// grows, and has made some of its entries. Its reads take no lock and wait for nobody. It keeps
@@ -163,6 +166,73 @@ impl<L: Naming> Worker<L> {
             ≡ cause_in_of (database_at L.tables L.limits self.now.seen) generation number }
     {
         self.seen.db().cause_in(generation, number)
+    }
+
+    /// The rows of a table that differ between the current generation and the next one, by rising
+    /// key, at the last slot that the repair has done, in the last state that it has seen. Refused,
+    /// in this order, as `Statement(NoTable)`, `NotRepairing` and `Memory`.
+    pub fn diff(&self, table: u16) -> Result<Items<RowChange>, ReadError>
+        ensures { TellsDiff
+            (right_diff (database_at L.tables L.limits self.now.seen) table) result }
+    {
+        self.seen.db().diff(table)
+    }
+
+    /// As [`diff`](Worker::diff), of the repair that closed a generation, at its last slot. Refused
+    /// as `NoGeneration` in place of `NotRepairing`, where the generation isn't kept or is the
+    /// current one.
+    pub fn diff_in(&self, generation: u64, table: u16) -> Result<Items<RowChange>, ReadError>
+        ensures { TellsDiff
+            (right_diff_in (database_at L.tables L.limits self.now.seen) generation table)
+            result }
+    {
+        self.seen.db().diff_in(generation, table)
+    }
+
+    /// Of the rows that [`diff`](Worker::diff) returns, those with greater keys than `after`, if
+    /// that is given: the first `most` of them, and whether more follow. Refuses what that refuses.
+    pub fn diff_page(
+        &self,
+        table: u16,
+        after: Option<i64>,
+        most: u32,
+    ) -> Result<FirstChanges, ReadError>
+        ensures { TellsDiffPage after most
+            (right_diff (database_at L.tables L.limits self.now.seen) table) result }
+    {
+        self.seen.db().diff_page(table, after, most)
+    }
+
+    /// Of the rows that [`diff_in`](Worker::diff_in) returns, those with greater keys than `after`,
+    /// if that is given: the first `most` of them, and whether more follow. Refuses what that
+    /// refuses.
+    pub fn diff_page_in(
+        &self,
+        generation: u64,
+        table: u16,
+        after: Option<i64>,
+        most: u32,
+    ) -> Result<FirstChanges, ReadError>
+        ensures { TellsDiffPage after most
+            (right_diff_in (database_at L.tables L.limits self.now.seen) generation table)
+            result }
+    {
+        self.seen.db().diff_page_in(generation, table, after, most)
+    }
+
+    /// What a repair with these edits would come to: the last state that it has seen, after the
+    /// repair has begun and has done all slots. Nothing of it is published. Refused as
+    /// [`Db::tried`].
+    pub fn tried(&self, edits: Items<Edit>) -> Result<Db, DbError>
+        ensures state { IfOk result (λ tried. tried
+            ≡ tried_database (database_at L.tables L.limits self.now.seen) edits) }
+        ensures accepted { OnOk result
+            (tried_refusal (database_at L.tables L.limits self.now.seen) edits ≡ None) }
+        ensures refused { IfErr result (λ e.
+            tried_refusal (database_at L.tables L.limits self.now.seen) edits
+            ≡ refusal_of_error e) }
+    {
+        self.seen.db().tried(edits)
     }
 
     /// The rows that match now, by rising key, and the current time. They are right at a front that

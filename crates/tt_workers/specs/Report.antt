@@ -19,7 +19,10 @@ use Rattle.tt_document.specs.declared.document.Call.{Call}
 use Rattle.tt_workload.specs.Records.{text_of_records, text_of_changes}
 use Rattle.tt_workload.specs.History.{entries_of, history_of, edit_of_slot, administrator}
 use Rattle.tt_workload.specs.declared.options.Options.{Options}
+use Rattle.tt_workload.specs.declared.told_repair.ToldRepair.{ToldRepair}
+use Rattle.tt_workload.specs.declared.told_repair.ToldRepair.TheVariants.{ThatClosed}
 use Rattle.tt_workload.specs.CauseLines.{redone_lines_if}
+use Rattle.tt_workload.specs.DiffLines.{diff_lines_if}
 use Rattle.tt_workload.specs.Report.{repair_text, closed_lines_if, last_lines}
 use Rattle.tt_workers.specs.declared.report.Report.{Report}
 use Rattle.tt_workers.specs.Calls.{made_by, seen_after, record_at}
@@ -88,16 +91,25 @@ pub record IsReportOf (document : Document) (report : Report) : Type 0 where
   pub everyone : All (IsOfWorker (administrator document)) report.db.history
   pub changes : report.changes.items ≡ changes_of report.db.catalog (state_of report.db) report.records.items
 
--- the lines of a repair on a later database, if there was one: its own, and one for each slot that it re-executed where these are asked for.
--- It closed the generation before the one that it switched to
+-- a repair that has switched, as lines tell of it: it closed the generation before the one that it switched to
+abbrev pub told_repair : Repaired → ToldRepair
+told_repair r = ThatClosed (r.generation - 1)
+
+-- the lines of a repair on a later database, if there was one: its own, and one for each slot that it re-executed where these are asked for
 abbrev pub repair_lines_if : Bool → Database → Option Repaired → List ℕ
 repair_lines_if why db None = []
-repair_lines_if why db (Some r) = repair_text r.generation r.slots r.rerun ++ redone_lines_if why db (r.generation - 1)
+repair_lines_if why db (Some r) = repair_text r.generation r.slots r.rerun ++ redone_lines_if why db (told_repair r)
 
--- the text of a report: a line for each call, those of the repair, one for each changed reply, those of the closed generations where these
--- are asked for, one for each table, and the last one
+-- the lines of the rows that differ by a repair, if there was one, where these are asked for
+abbrev pub diff_of_repair_if : Bool → Database → Option Repaired → List ℕ
+diff_of_repair_if diff db None = []
+diff_of_repair_if diff db (Some r) = diff_lines_if diff db (told_repair r)
+
+-- the text of a report: a line for each call, those of the repair, one for each changed reply, one for each row that differs and those of
+-- the closed generations where these are asked for, one for each table, and the last one
 abbrev pub text_of_report : Options → Report → List ℕ
 text_of_report options report =
     text_of_records report.records.items
     ++ (repair_lines_if options.why report.db report.repaired
-    ++ (text_of_changes report.changes.items ++ (closed_lines_if options.closed report.db ++ last_lines report.db)))
+    ++ (text_of_changes report.changes.items
+    ++ (diff_of_repair_if options.diff report.db report.repaired ++ (closed_lines_if options.closed report.db ++ last_lines report.db))))

@@ -1,18 +1,20 @@
 //! The text of a report.
 ghost use Rattle.std.specs.Prelude.{◌≡◌, ◌++◌, OnOk, IfOk, IfErr};
-ghost use Rattle.tt_workers.specs.Report.{repair_lines_if, text_of_report};
+ghost use Rattle.tt_workers.specs.Report.{told_repair, repair_lines_if, diff_of_repair_if, text_of_report};
 
 use crate::report::Report;
 use std::alloc::{AllocError, Global};
 use tt_db::Db;
 use tt_repair::Repaired;
 use tt_workload::{
-    Options, RunFault, push_changes, push_end_of_run, push_records, push_redone_if, push_repair,
+    Options, RunFault, ToldRepair, push_changes, push_diff_if, push_end_of_run, push_records,
+    push_redone_if, push_repair,
 };
 
 /// All lines of a report: one for each call, those of the repair, with its causes if these are
-/// asked for, those of the closed generations that are kept if these are, those of all tables, and
-/// the last line.
+/// asked for, one for each changed reply and for each row that differs by the repair if these are,
+/// those of the closed generations that are kept if these are, those of all tables, and the last
+/// line.
 pub fn text_of_report(
     alloc: Global,
     report: &Report,
@@ -26,6 +28,7 @@ pub fn text_of_report(
     push_records(&mut out, &report.records)?;
     push_repair_if(&mut out, db, report.repaired, options.why)?;
     push_changes(&mut out, &report.changes)?;
+    push_diff_of_repair_if(alloc, &mut out, db, report.repaired, options.diff)?;
     push_end_of_run(alloc, &mut out, db, options.closed)?;
     Ok(out)
 }
@@ -43,7 +46,31 @@ fn push_repair_if(
 {
     if let Some(repaired) = repaired {
         push_repair(out, repaired.generation, repaired.slots, repaired.rerun)?;
-        push_redone_if(out, db, repaired.generation.saturating_sub(1), why)?;
+        push_redone_if(out, db, told_repair(repaired), why)?;
     }
     Ok(())
+}
+
+/// Pushes a line for each row that differs by a repair, if there was one, and these are asked for.
+fn push_diff_of_repair_if(
+    alloc: Global,
+    out: &mut Vec<u8>,
+    db: &Db,
+    repaired: Option<Repaired>,
+    diff: bool,
+) -> Result<(), AllocError>
+    ensures { OnOk result (out.new.items
+        ≡ out.old.items ++ diff_of_repair_if diff db.now repaired) }
+{
+    if let Some(repaired) = repaired {
+        push_diff_if(alloc, out, db, told_repair(repaired), diff)?;
+    }
+    Ok(())
+}
+
+/// A repair that has switched, as lines tell of it: it closed the generation before its own.
+fn told_repair(repaired: Repaired) -> ToldRepair
+    ensures { result ≡ told_repair repaired }
+{
+    ToldRepair::ThatClosed(repaired.generation.saturating_sub(1))
 }

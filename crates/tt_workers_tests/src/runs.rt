@@ -111,6 +111,8 @@ fn report_in_rounds<R: Threads + Wait + Abort + Sync, G: Gate + Copy + Drop + Se
         rounds,
         closed: false,
         why: false,
+        diff: false,
+        dry: false,
     };
     match run_workers(rt, alloc, document, &options, gate) {
         Ok(report) => report,

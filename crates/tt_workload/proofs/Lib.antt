@@ -3,6 +3,7 @@ pub mod RepairLemmas
 pub mod BeginLemmas
 pub mod ClosedLemmas
 pub mod CauseLineLemmas
+pub mod DiffLineLemmas
 pub mod RepairReportLemmas
 pub mod WholeReportLemmas
 pub mod ReportLemmas

@@ -159,6 +159,13 @@ switch_is_accepted calls db is few none =
     let entries = full_at-below (state_of db).events db.limits.events room.events in
     rw (is.repairing, none, entries) refl
 
+-- giving the repair up isn't refused
+pub abort_is_accepted : (calls : ℕ) (db : Database) → IsUnderWay calls db → calls < 1000000 → refusal_of db events.Abort ≡ None
+abort_is_accepted calls db is few =
+    let room = room-under_way calls db is few in
+    let entries = full_at-below (state_of db).events db.limits.events room.events in
+    rw (is.repairing, entries) refl
+
 -- ---- calls beside the steps
 
 -- the record of the next call, and those of the calls that are left

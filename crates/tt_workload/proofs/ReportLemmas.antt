@@ -21,7 +21,7 @@ use Rattle.tt_workload.specs.declared.run_fault.RunFault.{RunFault}
 use Rattle.std.specs.Fmt.{decimal}
 use Rattle.tt_workload.specs.declared.run_fault.RunFault.TheVariants.{Memory}
 use Rattle.tt_workload.specs.Printing.{replies_text}
-use Rattle.tt_workload.specs.Records.{after_text, text_of_change}
+use Rattle.tt_workload.specs.Records.{after_text, change_text}
 use Rattle.tt_workload.specs.Room.{AreAccepted}
 use Rattle.tt_workload.specs.Report.{table_line, table_lines, end_line}
 
@@ -76,10 +76,10 @@ is_memory (Ok x) h = tt
 is_memory (Err e) h = h
 
 -- the pieces of the line of a changed reply, one after another
-pub change-pieces : (change : Changed) (out labelled spaced before arrow after all : List ℕ)
-    → labelled ≡ out ++ (codes "changed call " ++ decimal change.call) → spaced ≡ labelled ++ codes " " → before ≡ spaced ++ replies_text change.before
-    → arrow ≡ before ++ codes " -> " → after ≡ arrow ++ after_text change.after → all ≡ after ++ codes "\n" → all ≡ out ++ text_of_change change
-unfolding text_of_change
-change-pieces change out labelled spaced before arrow after all p q r s t u =
+pub change-pieces : (label : List ℕ) (change : Changed) (out labelled spaced before arrow after all : List ℕ)
+    → labelled ≡ out ++ (label ++ decimal change.call) → spaced ≡ labelled ++ codes " " → before ≡ spaced ++ replies_text change.before
+    → arrow ≡ before ++ codes " -> " → after ≡ arrow ++ after_text change.after → all ≡ after ++ codes "\n" → all ≡ out ++ change_text label change
+unfolding change_text
+change-pieces label change out labelled spaced before arrow after all p q r s t u =
     u ∙ ap (λ o. o ++ codes "\n") (t ∙ ap (λ o. o ++ after_text change.after) (s ∙ ap (λ o. o ++ codes " -> ") (r ∙ ap (λ o. o ++ replies_text change.before) (q ∙ ap (λ o. o ++ codes " ") p))))
     ∙ simp append_assoc

@@ -8,7 +8,7 @@ use Rattle.tt_document.specs.declared.document.Call.{Call}
 use Rattle.tt_document.specs.declared.document.Plan.{Plan}
 use Rattle.tt_workload.specs.declared.options.Options.{Options}
 use Rattle.tt_workload.specs.Records.{text_of_record, text_of_records}
-use Rattle.tt_workload.specs.History.{with_entries, entries_of, records_of, records_meanwhile, after_begin, after_switch, after_calls, records_of_calls, database_if, records_if}
+use Rattle.tt_workload.specs.History.{with_entries, entries_of, records_of, records_meanwhile, after_begin, after_repair, after_calls, records_of_calls, database_if, records_if}
 use Rattle.tt_workload.specs.Report.{repair_lines, repair_lines_if, closed_lines_if, last_lines, report_of, database_after}
 
 -- as many records as calls
@@ -17,30 +17,30 @@ length-records_of number db [] = refl
 length-records_of number db (call ∷ calls) = ap suc (length-records_of (number + 1) (with_entries db (entries_of call)) calls)
 
 -- the database after the repair
-pub repaired-database : (batch : ℕ) (document : Document) (plan : Plan) (records : List Record) (db db_2 : Database)
+pub repaired-database : (options : Options) (document : Document) (plan : Plan) (records : List Record) (db db_2 : Database)
     → db ≡ after_calls document → records ≡ records_of_calls document
-    → db_2 ≡ after_switch (document.workers + 1) batch records db plan
-    → db_2 ≡ database_if batch document (Some plan)
-repaired-database batch document plan records db db_2 is same after =
+    → db_2 ≡ after_repair options.dry (document.workers + 1) options.batch records db plan
+    → db_2 ≡ database_if options document (Some plan)
+repaired-database options document plan records db db_2 is same after =
     after
-    ∙ ap (λ (d : Database). after_switch (document.workers + 1) batch records d plan) is
-    ∙ ap (λ rs. after_switch (document.workers + 1) batch rs (after_calls document) plan) same
+    ∙ ap (λ (d : Database). after_repair options.dry (document.workers + 1) options.batch records d plan) is
+    ∙ ap (λ rs. after_repair options.dry (document.workers + 1) options.batch rs (after_calls document) plan) same
 
 -- the lines of all calls, and those of the repair
 pub repaired-lines : (options : Options) (document : Document) (plan : Plan) (records : List Record) (db : Database) (old out out_2 : List ℕ)
     → db ≡ after_calls document → records ≡ records_of_calls document → out ≡ old ++ text_of_records (records_of_calls document)
     → out_2 ≡ out ++ (text_of_records (records_meanwhile (document.workers + 1) options.batch (length records + 1) (after_begin (document.workers + 1) records db plan) plan.meanwhile)
-    ++ repair_lines options.why (document.workers + 1) options.batch records db plan)
+    ++ repair_lines options (document.workers + 1) options.batch records db plan)
     → out_2 ≡ old ++ (text_of_records (records_if options.batch document (Some plan)) ++ repair_lines_if options document (Some plan))
 repaired-lines options document plan records db old out out_2 is same calls lines =
     let worker = document.workers + 1 in
     let batch = options.batch in
     let first = records_of_calls document in
     let rest : Database → List Record → List ℕ = λ (d : Database) rs.
-    text_of_records (records_meanwhile worker batch (length rs + 1) (after_begin worker rs d plan) plan.meanwhile) ++ repair_lines options.why worker batch rs d plan in
+    text_of_records (records_meanwhile worker batch (length rs + 1) (after_begin worker rs d plan) plan.meanwhile) ++ repair_lines options worker batch rs d plan in
     let start = after_calls document in
     let meanwhile = records_meanwhile worker batch (length first + 1) (after_begin worker first start plan) plan.meanwhile in
-    let repair = repair_lines options.why worker batch first start plan in
+    let repair = repair_lines options worker batch first start plan in
     lines ∙ ap (λ o. o ++ rest db records) calls
     ∙ ap (λ (d : Database). (old ++ text_of_records first) ++ rest d records) is
     ∙ ap (λ rs. (old ++ text_of_records first) ++ rest start rs) same
@@ -58,7 +58,7 @@ if_ok (Ok x) f h = f x h
 if_ok (Err e) f h = h
 
 -- the whole report
-pub report_is : (options : Options) (document : Document) (db : Database) (none out all : List ℕ) → none ≡ [] → db ≡ database_after options.batch document
+pub report_is : (options : Options) (document : Document) (db : Database) (none out all : List ℕ) → none ≡ [] → db ≡ database_after options document
     → out ≡ none ++ (text_of_records (records_if options.batch document document.repair) ++ repair_lines_if options document document.repair)
     → all ≡ out ++ (closed_lines_if options.closed db ++ last_lines db) → all ≡ report_of options document
 report_is options document db none out all empty is lines ended =
@@ -67,4 +67,4 @@ report_is options document db none out all empty is lines ended =
     let repair = repair_lines_if options document document.repair in
     ended ∙ ap (λ o. o ++ ends db) (lines ∙ ap (λ o. o ++ (calls ++ repair)) empty)
     ∙ ap (λ (d : Database). (calls ++ repair) ++ ends d) is
-    ∙ append_assoc calls repair (ends (database_after options.batch document))
+    ∙ append_assoc calls repair (ends (database_after options document))

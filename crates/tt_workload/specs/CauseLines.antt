@@ -1,4 +1,4 @@
--- The lines of the slots that a repair re-executed, each with its cause.
+-- The lines of the slots that a repair has re-executed, each with its cause.
 use Rattle.std.specs.Prelude.{ℕ, Bool, true, false, List, [], ◌++◌, length, Option, None, Some, unwrap_or, codes}
 use Rattle.std.specs.List.{flat_map, range_with_len}
 use Rattle.std.specs.Option.{option_map}
@@ -7,11 +7,24 @@ use Rattle.tt_values.specs.declared.row_id.RowId.{RowId}
 use Rattle.tt_values.specs.Tables.{Tables}
 use Rattle.tt_parts.specs.declared.partition.Partition.{Partition}
 use Rattle.tt_causes.specs.Causes.{Cause, Edited, Wrote, Names, Reads, Scans}
+use Rattle.tt_generations.specs.TwoGenerations.{done_of}
 use Rattle.tt_db.specs.State.{slots_in}
 use Rattle.tt_db.specs.Database.{Database, state_of}
-use Rattle.tt_db.specs.Causes.{cause_in_of}
+use Rattle.tt_db.specs.Causes.{cause_of, cause_in_of}
 use Rattle.tt_grammar.specs.Printing.{value_text}
 use Rattle.tt_grammar.specs.WriteText.{table_name, column_name}
+use Rattle.tt_workload.specs.declared.told_repair.ToldRepair.{ToldRepair}
+use Rattle.tt_workload.specs.declared.told_repair.ToldRepair.TheVariants.{UnderWay, ThatClosed}
+
+-- the cause of a slot by a repair, if that re-executed it
+abbrev pub cause_by : Database → ToldRepair → ℕ → Option Cause
+cause_by db UnderWay slot = cause_of db slot
+cause_by db (ThatClosed generation) slot = cause_in_of db generation slot
+
+-- how many slots a repair has done: one that closed a generation has done all of that. Where there is no such repair, or its generation can't be read, none
+abbrev pub slots_done : Database → ToldRepair → ℕ
+slots_done db UnderWay = done_of (state_of db).phase
+slots_done db (ThatClosed generation) = unwrap_or (option_map length (slots_in (state_of db) generation)) 0
 
 -- a row: the name of its table, and its key
 abbrev pub row_name : Tables → RowId → List ℕ
@@ -39,20 +52,15 @@ abbrev pub redone_line : Tables → ℕ → Option Cause → List ℕ
 redone_line tables slot None = []
 redone_line tables slot (Some cause) = codes "redone slot " ++ (decimal slot ++ cause_text tables cause)
 
--- the lines of so many slots, from this one on, by the repair that closed a generation
-abbrev pub redone_lines_from : Database → ℕ → ℕ → ℕ → List ℕ
-redone_lines_from db generation slot count =
-    flat_map (λ t. redone_line db.catalog t (cause_in_of db generation t)) (range_with_len slot count)
+-- the lines of so many slots, from this one on
+abbrev pub redone_lines_from : Database → ToldRepair → ℕ → ℕ → List ℕ
+redone_lines_from db repair slot count = flat_map (λ t. redone_line db.catalog t (cause_by db repair t)) (range_with_len slot count)
 
--- how many slots a generation has. One that can't be read has none
-abbrev pub slot_count : Database → ℕ → ℕ
-slot_count db generation = unwrap_or (option_map length (slots_in (state_of db) generation)) 0
-
--- the lines of the slots that were re-executed by the repair that closed a generation
-abbrev pub redone_lines : Database → ℕ → List ℕ
-redone_lines db generation = redone_lines_from db generation 1 (slot_count db generation)
+-- the lines of the slots that a repair has re-executed
+abbrev pub redone_lines : Database → ToldRepair → List ℕ
+redone_lines db repair = redone_lines_from db repair 1 (slots_done db repair)
 
 -- the same, where they are asked for
-abbrev pub redone_lines_if : Bool → Database → ℕ → List ℕ
-redone_lines_if false db generation = []
-redone_lines_if true db generation = redone_lines db generation
+abbrev pub redone_lines_if : Bool → Database → ToldRepair → List ℕ
+redone_lines_if false db repair = []
+redone_lines_if true db repair = redone_lines db repair

@@ -1,5 +1,5 @@
 -- The database that a document leaves, and the records of its calls.
-use Rattle.std.specs.Prelude.{ℕ, ◌+◌, ◌-◌, min, List, [], ◌∷◌, ◌++◌, length, slice_get, map, replicate, Option, Some, None}
+use Rattle.std.specs.Prelude.{ℕ, ◌+◌, ◌-◌, min, Bool, true, false, List, [], ◌∷◌, ◌++◌, length, slice_get, map, replicate, Option, Some, None}
 use Rattle.std.specs.List.{flat_map}
 use Rattle.tt_repair_laws.specs.declared.edit.Edit.{Edit}
 use Rattle.tt_repair_laws.specs.declared.edit.Edit.TheVariants.{Cancel, Replace}
@@ -17,6 +17,7 @@ use Rattle.tt_document.specs.declared.document.Plan.{Plan}
 use Rattle.tt_document.specs.declared.document.Call.{Call}
 use Rattle.tt_document.specs.declared.document.Ask.{Ask}
 use Rattle.tt_document.specs.declared.document.Ask.TheVariants as asks
+use Rattle.tt_workload.specs.declared.options.Options.{Options}
 use Rattle.tt_workload.specs.Records.{record_in}
 
 -- the entries that a call adds to the history: that of an action, under its worker's number
@@ -94,14 +95,19 @@ records_meanwhile worker batch number db (call ∷ calls) =
 abbrev pub after_begin : ℕ → List Record → Database → Plan → Database
 after_begin worker records db plan = with_entry db (repair_entry worker (events.Begin (map (edit_of_slot records) plan.edits)))
 
--- the database before the switch, with every slot done, where at most a batch of steps is made before each further call
-abbrev pub before_switch : ℕ → ℕ → List Record → Database → Plan → Database
-before_switch worker batch records db plan =
+-- the database before the end of the repair, with every slot done, where at most a batch of steps is made before each further call
+abbrev pub before_end : ℕ → ℕ → List Record → Database → Plan → Database
+before_end worker batch records db plan =
     with_steps_left worker (with_meanwhile worker batch (after_begin worker records db plan) plan.meanwhile)
 
--- the database after the switch
-abbrev pub after_switch : ℕ → ℕ → List Record → Database → Plan → Database
-after_switch worker batch records db plan = with_entry (before_switch worker batch records db plan) (repair_entry worker events.Switch)
+-- the end of a repair: its switch, or where a run is dry its being given up
+abbrev pub end_of_repair : Bool → Event
+end_of_repair false = events.Switch
+end_of_repair true = events.Abort
+
+-- the database after the end of the repair
+abbrev pub after_repair : Bool → ℕ → ℕ → List Record → Database → Plan → Database
+after_repair dry worker batch records db plan = with_entry (before_end worker batch records db plan) (repair_entry worker (end_of_repair dry))
 
 -- the records of the calls before the repair and of those that are made meanwhile
 abbrev pub with_records_meanwhile : ℕ → ℕ → List Record → Database → Plan → List Record
@@ -124,10 +130,10 @@ abbrev pub administrator : Document → ℕ
 administrator document = document.workers + 1
 
 -- the last database of a document, with or without a repair
-abbrev pub database_if : ℕ → Document → Option Plan → Database
-database_if batch document None = after_calls document
-database_if batch document (Some plan) =
-    after_switch (administrator document) batch (records_of_calls document) (after_calls document) plan
+abbrev pub database_if : Options → Document → Option Plan → Database
+database_if options document None = after_calls document
+database_if options document (Some plan) =
+    after_repair options.dry (administrator document) options.batch (records_of_calls document) (after_calls document) plan
 
 -- the records of all its calls
 abbrev pub records_if : ℕ → Document → Option Plan → List Record

@@ -6,5 +6,6 @@ pub mod Records
 pub mod History
 pub mod Room
 pub mod CauseLines
+pub mod DiffLines
 pub mod Report
 pub mod Run

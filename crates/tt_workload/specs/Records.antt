@@ -72,10 +72,18 @@ abbrev pub after_text : After → List ℕ
 after_text afters.Cancelled = codes "cancelled"
 after_text (afters.Replies replies) = replies_text replies
 
+-- the line of a changed reply, behind a label
+unfoldable pub change_text : List ℕ → Changed → List ℕ
+change_text label c = label ++ (decimal c.call ++ (codes " " ++ (replies_text c.before ++ (codes " -> " ++ (after_text c.after ++ codes "\n")))))
+
 -- the line of a changed reply
-unfoldable pub text_of_change : Changed → List ℕ
-text_of_change c = codes "changed call " ++ (decimal c.call ++ (codes " " ++ (replies_text c.before ++ (codes " -> " ++ (after_text c.after ++ codes "\n")))))
+abbrev pub text_of_change : Changed → List ℕ
+text_of_change c = change_text (codes "changed call ") c
 
 -- the lines of changed replies
 abbrev pub text_of_changes : List Changed → List ℕ
-text_of_changes changes = flat_map text_of_change changes
+text_of_changes changes = flat_map (change_text (codes "changed call ")) changes
+
+-- the lines of replies that a repair would change
+abbrev pub text_of_would_be_changes : List Changed → List ℕ
+text_of_would_be_changes changes = flat_map (change_text (codes "would change call ")) changes

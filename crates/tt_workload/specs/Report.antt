@@ -1,25 +1,28 @@
 -- The report of a document, in bytes, and the database that its calls leave.
-use Rattle.std.specs.Prelude.{ℕ, ◌+◌, ◌-◌, List, [], ◌∷◌, ◌++◌, length, Bool, true, false, Option, Some, None, codes}
+use Rattle.std.specs.Prelude.{ℕ, ◌+◌, ◌-◌, List, [], ◌∷◌, ◌++◌, length, Bool, true, false, if◌then◌else◌, Option, Some, None, codes}
 use Rattle.std.specs.Fmt.{decimal}
 use Rattle.tt_values.specs.declared.statement.Select.{Select}
 use Rattle.tt_values.specs.declared.reply.Reply.{Reply}
 use Rattle.tt_values.specs.Tables.{Tables}
 use Rattle.tt_values.specs.Effect.{answer_of}
 use Rattle.tt_values.specs.RowWrites.{Slots, content_of}
+use Rattle.tt_generations.specs.TwoGenerations.{reexecuted_of}
 use Rattle.tt_db.specs.State.{State, ClosedGeneration, now_of, current_at}
 use Rattle.tt_db.specs.declared.event.Event.TheVariants.{Switch}
 use Rattle.tt_db.specs.declared.outcome.Outcome.{Outcome}
 use Rattle.tt_db.specs.declared.outcome.Outcome.TheVariants.{Switched}
-use Rattle.tt_db.specs.Database.{Database, state_of, outcome_for}
+use Rattle.tt_db.specs.Database.{Database, state_of, with_entry, outcome_for}
 use Rattle.tt_records.specs.declared.record.Record.{Record}
-use Rattle.tt_records.specs.Changes.{changes_of}
+use Rattle.tt_records.specs.Changes.{changes_of, next_changes_of}
 use Rattle.tt_document.specs.declared.document.Document.{Document}
 use Rattle.tt_document.specs.declared.document.Plan.{Plan}
 use Rattle.tt_workload.specs.declared.options.Options.{Options}
+use Rattle.tt_workload.specs.declared.told_repair.ToldRepair.TheVariants.{UnderWay, ThatClosed}
 use Rattle.tt_workload.specs.Printing.{reply_text}
-use Rattle.tt_workload.specs.Records.{text_of_records, text_of_changes}
+use Rattle.tt_workload.specs.Records.{text_of_records, text_of_changes, text_of_would_be_changes}
 use Rattle.tt_workload.specs.CauseLines.{redone_lines_if}
-use Rattle.tt_workload.specs.History.{after_calls, records_of_calls, before_switch, after_switch, with_records_meanwhile, administrator, database_if, records_if}
+use Rattle.tt_workload.specs.DiffLines.{diff_lines_if}
+use Rattle.tt_workload.specs.History.{after_calls, records_of_calls, repair_entry, before_end, with_records_meanwhile, administrator, database_if, records_if}
 
 -- the line of a repair, with what its switch answered: the generation, the slots, and how many of them were re-executed
 abbrev pub repair_text : ℕ → ℕ → ℕ → List ℕ
@@ -43,22 +46,52 @@ changed_lines db records = text_of_changes (changes_of db.catalog (state_of db) 
 abbrev pub closed_by_switch : Database → ℕ
 closed_by_switch db = (state_of db).generation - 1
 
--- the lines behind that of a repair, on the database after its switch: one for each slot that it re-executed where these are asked for, and
--- one for each changed reply
-abbrev pub lines_after_switch : Bool → Database → List Record → List ℕ
-lines_after_switch why db records = redone_lines_if why db (closed_by_switch db) ++ changed_lines db records
+-- the lines behind that of a repair, on the database after its switch: one for each slot that it re-executed and one for each row that
+-- differs, where these are asked for, and between them one for each changed reply
+abbrev pub lines_after_switch : Options → Database → List Record → List ℕ
+lines_after_switch options db records =
+    redone_lines_if options.why db (ThatClosed (closed_by_switch db))
+    ++ (changed_lines db records ++ diff_lines_if options.diff db (ThatClosed (closed_by_switch db)))
 
--- the lines of a repair: its own, and those behind it
-abbrev pub repair_lines : Bool → ℕ → ℕ → List Record → Database → Plan → List ℕ
-repair_lines why worker batch records db plan =
-    repair_line (before_switch worker batch records db plan)
-    ++ lines_after_switch why (after_switch worker batch records db plan) (with_records_meanwhile worker batch records db plan)
+-- the lines of a repair that switches, on the databases before its switch and after it
+abbrev pub lines_of_switch : Options → Database → Database → List Record → List ℕ
+lines_of_switch options before after records = repair_line before ++ lines_after_switch options after records
+
+-- the line of a repair that is tried: how many slots it would re-execute, and of how many
+abbrev pub would_rerun_text : ℕ → ℕ → List ℕ
+would_rerun_text rerun slots = codes "would rerun " ++ (decimal rerun ++ (codes " of " ++ (decimal slots ++ codes " slots\n")))
+
+-- the same, on the database with every slot done
+abbrev pub would_rerun_line : Database → List ℕ
+would_rerun_line db =
+    let S = state_of db in
+    would_rerun_text (reexecuted_of db.catalog S.phase S.slots) (now_of S)
+
+-- the lines of the replies that the repair under way would change
+abbrev pub would_change_lines : Database → List Record → List ℕ
+would_change_lines db records = text_of_would_be_changes (next_changes_of db.catalog (state_of db) records)
+
+-- the lines of a repair that is given up, on the database before that: what they tell is that of the repair under way
+abbrev pub lines_of_trial : Options → Database → List Record → List ℕ
+lines_of_trial options db records =
+    would_rerun_line db ++ (redone_lines_if options.why db UnderWay ++ (would_change_lines db records ++ diff_lines_if options.diff db UnderWay))
+
+-- the lines of a repair, on the database before its end: it switches, or is given up where the run is dry
+abbrev pub lines_of_end : Options → ℕ → Database → List Record → List ℕ
+lines_of_end options worker db records =
+    if options.dry then lines_of_trial options db records
+    else lines_of_switch options db (with_entry db (repair_entry worker Switch)) records
+
+-- the lines of a repair
+abbrev pub repair_lines : Options → ℕ → ℕ → List Record → Database → Plan → List ℕ
+repair_lines options worker batch records db plan =
+    lines_of_end options worker (before_end worker batch records db plan) (with_records_meanwhile worker batch records db plan)
 
 -- the lines of the repair of a document, with or without one
 abbrev pub repair_lines_if : Options → Document → Option Plan → List ℕ
 repair_lines_if options document None = []
 repair_lines_if options document (Some plan) =
-    repair_lines options.why (administrator document) options.batch (records_of_calls document) (after_calls document) plan
+    repair_lines options (administrator document) options.batch (records_of_calls document) (after_calls document) plan
 
 -- a select of all rows of a table
 abbrev pub all_rows : ℕ → Select
@@ -124,10 +157,10 @@ last_lines db = table_lines (state_of db) 0 db.catalog ++ end_line (state_of db)
 -- those of the closed generations where these are asked for, one for each table, and the last one
 abbrev pub report_of : Options → Document → List ℕ
 report_of options document =
-    let last = database_if options.batch document document.repair in
+    let last = database_if options document document.repair in
     text_of_records (records_if options.batch document document.repair)
     ++ (repair_lines_if options document document.repair ++ (closed_lines_if options.closed last ++ last_lines last))
 
 -- the database after the calls of a document, and its repair
-abbrev pub database_after : ℕ → Document → Database
-database_after batch document = database_if batch document document.repair
+abbrev pub database_after : Options → Document → Database
+database_after options document = database_if options document document.repair

@@ -17,16 +17,16 @@ pub record WritesReport (options : Options) (remaining : List ℕ) (old new : Op
   pub written : Appends old new (report_of options document)
 
 -- the database is the one after the calls of that document
-pub record LeavesDatabase (batch : ℕ) (remaining : List ℕ) (db : Database) : Type 0 where
+pub record LeavesDatabase (options : Options) (remaining : List ℕ) (db : Database) : Type 0 where
   pub document : Document
   pub is_read : ReadsDocument remaining document
-  pub is_last : db ≡ database_after batch document
+  pub is_last : db ≡ database_after options document
 
 -- the same, whatever was read: it is the one after the calls of some document
-pub record IsLeftByDocument (batch : ℕ) (db : Database) : Type 0 where
+pub record IsLeftByDocument (options : Options) (db : Database) : Type 0 where
   pub document : Document
   pub text : HasText document
-  pub is_last : db ≡ database_after batch document
+  pub is_last : db ≡ database_after options document
 
 -- a prefix of that report was written, and nothing else
 pub record WritesPrefix (options : Options) (remaining : List ℕ) (old new : Option (List ℕ)) : Type 0 where

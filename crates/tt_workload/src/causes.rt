@@ -2,41 +2,73 @@
 ghost use Rattle.std.specs.Prelude.{◌≡◌, ◌++◌, OnOk};
 ghost use Rattle.std.specs.Option.{option_map};
 ghost use Rattle.tt_generations.specs.SlotCauses.{cause_told};
-ghost use Rattle.tt_grammar.specs.WriteText.{table_name, column_name};
-ghost use Rattle.tt_workload.specs.CauseLines.{row_name, partition_name, since_text, cause_text, redone_line, slot_count, redone_lines, redone_lines_if};
+ghost use Rattle.tt_generations.specs.TwoGenerations.{done_of};
+ghost use Rattle.tt_db.specs.Database.{state_of};
+ghost use Rattle.tt_workload.specs.CauseLines.{cause_by, slots_done, row_name, partition_name, since_text, cause_text, redone_line, redone_lines, redone_lines_if};
 
+use crate::told_repair::ToldRepair;
 use std::alloc::AllocError;
 use tt_db::{Cause, Db};
-use tt_grammar::{push_int, push_labelled, push_value};
+use tt_grammar::{column_name, push_int, push_labelled, push_value, table_name};
 use tt_values::{Catalog, Value};
 
-/// Pushes a line for each slot that was re-executed by the repair that closed a generation, with
-/// its cause, if these lines are asked for. A generation that isn't kept has none.
+/// Pushes a line for each slot that a repair has re-executed, with its cause, if these lines are
+/// asked for. Where there is no such repair, or its generation isn't kept, there are none.
 pub fn push_redone_if(
     out: &mut Vec<u8>,
     db: &Db,
-    generation: u64,
+    repair: ToldRepair,
     why: bool,
 ) -> Result<(), AllocError>
     ensures { OnOk result (out.new.items
-        ≡ out.old.items ++ redone_lines_if why db.now generation) }
+        ≡ out.old.items ++ redone_lines_if why db.now repair) }
 {
     if why {
-        push_redone(out, db, generation)?;
+        push_redone(out, db, repair)?;
     }
     Ok(())
 }
 
-/// Pushes a line for each slot that was re-executed by the repair that closed a generation.
-fn push_redone(out: &mut Vec<u8>, db: &Db, generation: u64) -> Result<(), AllocError>
-    ensures { OnOk result (out.new.items ≡ out.old.items ++ redone_lines db.now generation) }
+/// Pushes a line for each slot that a repair has re-executed.
+fn push_redone(out: &mut Vec<u8>, db: &Db, repair: ToldRepair) -> Result<(), AllocError>
+    ensures { OnOk result (out.new.items ≡ out.old.items ++ redone_lines db.now repair) }
 {
-    let count = db.last_time(generation).unwrap_or(0);
+    let count = slots_done(db, repair);
     for earlier in 0..count {
         let slot = earlier + 1;
-        push_redone_slot(out, db.catalog(), slot, db.cause_in(generation, slot))?;
+        push_redone_slot(out, db.catalog(), slot, cause_by(db, repair, slot))?;
     }
     Ok(())
+}
+
+/// How many slots a repair has done: 0 where there is no such repair.
+fn slots_done(db: &Db, repair: ToldRepair) -> u64
+    ensures { result ≡ slots_done db.now repair }
+{
+    match repair {
+        ToldRepair::UnderWay => done_under_way(db),
+        ToldRepair::ThatClosed(generation) => db.last_time(generation).unwrap_or(0),
+    }
+}
+
+/// How many slots the repair under way has done: 0 where none is under way.
+fn done_under_way(db: &Db) -> u64
+    ensures { result ≡ done_of (state_of db.now).phase }
+{
+    match db.repair() {
+        Some(progress) => progress.done,
+        None => 0,
+    }
+}
+
+/// Why a repair re-executed the slot of a number; None where it didn't.
+fn cause_by(db: &Db, repair: ToldRepair, slot: u64) -> Option<Cause<'_>>
+    ensures { option_map cause_told result ≡ cause_by db.now repair slot }
+{
+    match repair {
+        ToldRepair::UnderWay => db.cause(slot),
+        ToldRepair::ThatClosed(generation) => db.cause_in(generation, slot),
+    }
 }
 
 /// Pushes the line of a slot with its cause, if it was re-executed.
@@ -92,7 +124,7 @@ fn push_cause(out: &mut Vec<u8>, catalog: &Catalog, cause: Cause<'_>) -> Result<
 }
 
 /// Pushes the name of a row's table, and the key.
-fn push_row_name(
+pub(crate) fn push_row_name(
     out: &mut Vec<u8>,
     catalog: &Catalog,
     table: u16,
@@ -131,27 +163,4 @@ fn push_since(out: &mut Vec<u8>, since: u64) -> Result<(), AllocError>
     push_labelled(out, b" since ", since)?;
     out.push(b'\n')?;
     Ok(())
-}
-
-/// The name of the table at a position, or an empty one where there is no table.
-fn table_name(catalog: &Catalog, table: u16) -> &str
-    ensures { result.now ≡ table_name catalog.now table }
-{
-    match catalog.name(table) {
-        Some(name) => name,
-        None => "",
-    }
-}
-
-/// The name of the column at a position of a table, or an empty one where there is no column.
-fn column_name(catalog: &Catalog, table: u16, column: u16) -> &str
-    ensures { result.now ≡ column_name catalog.now table column }
-{
-    let Some(def) = catalog.table(table) else {
-        return "";
-    };
-    match def.columns.get(usize::from(column)) {
-        Some(column) => column.name.as_str(),
-        None => "",
-    }
 }

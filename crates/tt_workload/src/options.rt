@@ -12,13 +12,19 @@ pub struct Options {
     pub closed: bool,
     /// Whether the slots that the repair re-executed are printed, each with its cause.
     pub why: bool,
+    /// Whether the rows that differ between the generations by the repair are printed.
+    pub diff: bool,
+    /// Whether the repair of a replay is given up before its switch, so that its report tells what
+    /// would be. A run in threads doesn't read it.
+    pub dry: bool,
 }
 
 impl Options {
     ghost use Rattle.std.specs.Prelude.{◌↔◌, IsTrue};
     ghost use Rattle.tt_workload.specs.Options.{usual, AreWithin};
 
-    /// The options where none is given: batch 16, rounds 8, no closed generation, no causes.
+    /// The options where none is given: batch 16, rounds 8, no closed generation, no causes
+    /// and no differences, and the repair switches.
     pub const fn usual() -> Options
         ensures { result ≡ usual }
     {
@@ -27,6 +33,8 @@ impl Options {
             rounds: 8,
             closed: false,
             why: false,
+            diff: false,
+            dry: false,
         }
     }
 

@@ -1,7 +1,8 @@
 //! The lines of records and of changed replies.
 ghost use Rattle.std.specs.Prelude.{◌≡◌, ◌++◌, OnOk, IfOk};
+ghost use Rattle.std.specs.List.{flat_map};
 ghost use Rattle.std.specs.Fmt.{decimal};
-ghost use Rattle.tt_workload.specs.Records.{caller_text, answer_text, reply_at, after_text, text_of_record, text_of_records, text_of_change, text_of_changes};
+ghost use Rattle.tt_workload.specs.Records.{caller_text, answer_text, reply_at, after_text, text_of_record, text_of_records, change_text, text_of_change, text_of_changes, text_of_would_be_changes};
 
 use crate::printing::{push_replies, push_reply};
 use std::alloc::{AllocError, Global};
@@ -23,7 +24,7 @@ pub fn text_of_change(alloc: Global, change: &Changed) -> Result<Vec<u8>, AllocE
     ensures { IfOk result (λ text. text.items ≡ text_of_change change.now) }
 {
     let mut out = Vec::new(alloc);
-    push_change(&mut out, change)?;
+    push_change(&mut out, b"changed call ", change)?;
     Ok(out)
 }
 
@@ -104,17 +105,41 @@ fn push_reply_at(
 pub fn push_changes(out: &mut Vec<u8>, changes: &[Changed]) -> Result<(), AllocError>
     ensures { OnOk result (out.new.items ≡ out.old.items ++ text_of_changes changes.now) }
 {
+    push_changes_behind(out, b"changed call ", changes)
+}
+
+/// Pushes the lines of replies that a repair would change.
+pub(crate) fn push_would_be_changes(
+    out: &mut Vec<u8>,
+    changes: &[Changed],
+) -> Result<(), AllocError>
+    ensures { OnOk result (out.new.items
+        ≡ out.old.items ++ text_of_would_be_changes changes.now) }
+{
+    push_changes_behind(out, b"would change call ", changes)
+}
+
+/// Pushes the lines of changed replies, each of which begins with a label.
+fn push_changes_behind(
+    out: &mut Vec<u8>,
+    label: &[u8],
+    changes: &[Changed],
+) -> Result<(), AllocError>
+    ensures { OnOk result (out.new.items
+        ≡ out.old.items ++ flat_map (change_text label.now) changes.now) }
+{
     for change in changes {
-        push_change(out, change)?;
+        push_change(out, label, change)?;
     }
     Ok(())
 }
 
-/// Pushes the line of a changed reply.
-fn push_change(out: &mut Vec<u8>, change: &Changed) -> Result<(), AllocError>
-    ensures { OnOk result (out.new.items ≡ out.old.items ++ text_of_change change.now) }
+/// Pushes the line of a changed reply, which begins with a label.
+fn push_change(out: &mut Vec<u8>, label: &[u8], change: &Changed) -> Result<(), AllocError>
+    ensures { OnOk result (out.new.items
+        ≡ out.old.items ++ change_text label.now change.now) }
 {
-    push_labelled(out, b"changed call ", change.call)?;
+    push_labelled(out, label, change.call)?;
     out.push(b' ')?;
     push_replies(out, change.before.as_slice())?;
     out.extend_from_slice(b" -> ")?;

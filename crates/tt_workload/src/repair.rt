@@ -1,19 +1,17 @@
-//! The repair of a document: its edits, its steps beside further calls, and its switch.
+//! The repair of a document: its edits, and its steps beside further calls.
 ghost use Rattle.std.specs.Prelude.{◌≡◌, ◌+◌, ◌++◌, ◌∷◌, ◌≤◌, true, [], length, map, min, OnOk, IfOk, IfErr, None};
 ghost use Rattle.tt_generations.specs.TwoGenerations.{is_repairing};
 ghost use Rattle.tt_db.specs.State.{slots_left};
-ghost use Rattle.tt_db.specs.Database.{state_of, with_entry, refusal_of, outcome_for};
+ghost use Rattle.tt_db.specs.Database.{state_of, with_entry, refusal_of};
 ghost use Rattle.tt_workload.specs.Records.{text_of_records};
 ghost use Rattle.tt_workload.specs.History.{with_entries, slot_in, slot_of_call, edit_of_slot, repair_entry, steps, with_batch, with_steps_left, with_meanwhile, records_meanwhile};
-ghost use Rattle.tt_workload.specs.Report.{repair_line, repair_text, outcome_text};
 ghost use Rattle.tt_workload.specs.Room.{AreAccepted, IsUnderWay};
 
 use crate::calls::{carry_out, make_call};
 use crate::run_fault::RunFault;
 use std::alloc::{AllocError, Global};
-use tt_db::{Db, Edit, Entry, Event, Outcome};
+use tt_db::{Db, Edit, Entry, Event};
 use tt_document::Call;
-use tt_grammar::push_labelled;
 use tt_records::{Record, What};
 use tt_values::Items;
 
@@ -166,7 +164,7 @@ pub(crate) fn make_meanwhile(
 }
 
 /// Makes the steps that are left.
-fn catch_up(db: &mut Db, worker: u32, calls: u64) -> Result<(), RunFault>
+pub(crate) fn catch_up(db: &mut Db, worker: u32, calls: u64) -> Result<(), RunFault>
     requires under_way { IsUnderWay calls db.old }
     requires few { calls ≤ 200000 }
     ensures state { OnOk result (db.new ≡ with_steps_left worker db.old) }
@@ -176,72 +174,4 @@ fn catch_up(db: &mut Db, worker: u32, calls: u64) -> Result<(), RunFault>
 {
     let count = slots_left(db);
     make_steps(db, worker, count, calls)
-}
-
-/// Makes the steps that are left, switches to the repaired generation, and pushes the line of the
-/// repair.
-pub(crate) fn finish(
-    out: &mut Vec<u8>,
-    db: &mut Db,
-    worker: u32,
-    calls: u64,
-) -> Result<(), RunFault>
-    requires under_way { IsUnderWay calls db.old }
-    requires few { calls ≤ 200000 }
-    ensures line { OnOk result (out.new.items
-        ≡ out.old.items ++ repair_line (with_steps_left worker db.old)) }
-    ensures state { OnOk result (db.new
-        ≡ with_entry (with_steps_left worker db.old) (repair_entry worker Event.Switch)) }
-    ensures err { IfErr result (λ e. e ≡ RunFault.Memory) }
-{
-    catch_up(db, worker, calls)?;
-    let outcome = switch(db, worker)?;
-    push_outcome(out, &outcome)?;
-    Ok(())
-}
-
-/// Switches to the repaired generation, and returns the outcome.
-fn switch(db: &mut Db, worker: u32) -> Result<Outcome, RunFault>
-    requires { refusal_of db.old Event.Switch ≡ None }
-    ensures state { OnOk result (db.new ≡ with_entry db.old (repair_entry worker Event.Switch)) }
-    ensures outcome { IfOk result (λ outcome. outcome ≡ outcome_for db.old Event.Switch) }
-    ensures err { IfErr result (λ e. e ≡ RunFault.Memory) }
-{
-    let entry = Entry {
-        worker,
-        event: Event::Switch,
-    };
-    carry_out(db, entry)
-}
-
-/// Pushes the line of a repair, if the outcome is that of a switch.
-fn push_outcome(out: &mut Vec<u8>, outcome: &Outcome) -> Result<(), AllocError>
-    ensures { OnOk result (out.new.items ≡ out.old.items ++ outcome_text outcome.now) }
-{
-    if let Outcome::Switched {
-        generation,
-        slots,
-        rerun,
-    } = outcome
-    {
-        push_repair(out, *generation, *slots, *rerun)?;
-    }
-    Ok(())
-}
-
-/// Pushes the line of a repair, with its line feed.
-pub fn push_repair(
-    out: &mut Vec<u8>,
-    generation: u64,
-    slots: u64,
-    rerun: u64,
-) -> Result<(), AllocError>
-    ensures { OnOk result (out.new.items
-        ≡ out.old.items ++ repair_text generation slots rerun) }
-{
-    push_labelled(out, b"repair generation ", generation)?;
-    push_labelled(out, b" slots ", slots)?;
-    push_labelled(out, b" rerun ", rerun)?;
-    out.push(b'\n')?;
-    Ok(())
 }

@@ -5,23 +5,22 @@ ghost use Rattle.tt_db.specs.Limits.{usual_limits};
 ghost use Rattle.tt_db.specs.Database.{state_of, refusal_of};
 ghost use Rattle.tt_document.specs.Document.{IsValidCall, IsValidPlan, IsValidDocument};
 ghost use Rattle.tt_workload.specs.Records.{text_of_records};
-ghost use Rattle.tt_workload.specs.History.{edit_of_slot, after_begin, after_switch, records_meanwhile, records_if};
+ghost use Rattle.tt_workload.specs.History.{edit_of_slot, after_begin, after_repair, records_meanwhile, records_if};
 ghost use Rattle.tt_workload.specs.Room.{AreAccepted, IsBefore};
-ghost use Rattle.tt_workload.specs.Report.{all_rows, table_text, table_line, table_lines, end_text, end_line, changed_lines, closed_by_switch, lines_after_switch, repair_lines, repair_lines_if, closed_lines_if, last_lines, report_of, database_after};
+ghost use Rattle.tt_workload.specs.Report.{all_rows, table_text, table_line, table_lines, end_text, end_line, repair_lines, repair_lines_if, closed_lines_if, last_lines, report_of, database_after};
 
 use crate::calls::make_calls;
-use crate::causes::push_redone_if;
 use crate::closed::push_closed_if;
 use crate::options::Options;
 use crate::printing::push_reply;
-use crate::record_text::push_changes;
-use crate::repair::{Administrator, begin, edits_of_slots, finish, make_meanwhile};
+use crate::repair::{Administrator, begin, edits_of_slots, make_meanwhile};
+use crate::repair_end::finish;
 use crate::run_fault::RunFault;
 use std::alloc::{AllocError, Global};
 use tt_db::{Db, Event, Limits};
 use tt_document::{Document, Plan};
 use tt_grammar::{push_decimal, push_labelled};
-use tt_records::{Record, changes};
+use tt_records::Record;
 use tt_values::{Items, Reply, Select};
 
 /// Pushes the line of a table.
@@ -106,51 +105,8 @@ fn push_state(alloc: Global, out: &mut Vec<u8>, db: &Db) -> Result<(), RunFault>
     Ok(())
 }
 
-/// Pushes a line for each record whose call is answered differently now.
-fn push_changed(
-    alloc: Global,
-    out: &mut Vec<u8>,
-    db: &Db,
-    records: &[Record],
-) -> Result<(), RunFault>
-    ensures text { OnOk result (out.new.items ≡ out.old.items
-        ++ changed_lines db.now records.now) }
-    ensures err { IfErr result (λ e. e ≡ RunFault.Memory) }
-{
-    let changes = changes(alloc, db, records)?;
-    push_changes(out, &changes)?;
-    Ok(())
-}
-
-/// The generation that the last switch closed.
-fn closed_by_switch(db: &Db) -> u64
-    ensures { result ≡ closed_by_switch db.now }
-{
-    db.generation().saturating_sub(1)
-}
-
-/// Pushes the lines behind that of a repair, after its switch: one for each slot that it
-/// re-executed, if these are asked for, and one for each record whose call is answered differently
-/// now.
-fn push_after_switch(
-    alloc: Global,
-    out: &mut Vec<u8>,
-    db: &Db,
-    records: &[Record],
-    why: bool,
-) -> Result<(), RunFault>
-    ensures text { OnOk result (out.new.items
-        ≡ out.old.items ++ lines_after_switch why db.now records.now) }
-    ensures err { IfErr result (λ e. e ≡ RunFault.Memory) }
-{
-    push_redone_if(out, db, closed_by_switch(db), why)?;
-    push_changed(alloc, out, db, records)?;
-    Ok(())
-}
-
 /// Carries out the repair of a document, and pushes the lines of the calls that are made meanwhile
-/// and those of the repair, with its causes if these are asked for. Returns the database after its
-/// switch.
+/// and those of the repair. Returns the database after its end.
 fn run_repair(
     alloc: Global,
     out: &mut Vec<u8>,
@@ -158,7 +114,7 @@ fn run_repair(
     db: Db,
     administrator: Administrator,
     plan: Plan,
-    why: bool,
+    options: &Options,
 ) -> Result<Db, RunFault>
     requires begins { refusal_of db (Event.Begin (map (edit_of_slot records.items) plan.edits))
         ≡ None }
@@ -170,9 +126,10 @@ fn run_repair(
         ++ (text_of_records (records_meanwhile administrator.worker administrator.batch
         (length records.items + 1) (after_begin administrator.worker records.items db plan)
         plan.meanwhile)
-        ++ repair_lines why administrator.worker administrator.batch records.items db plan)) }
-    ensures state { IfOk result (λ last. last
-        ≡ after_switch administrator.worker administrator.batch records.items db plan) }
+        ++ repair_lines options.now administrator.worker administrator.batch
+        records.items db plan)) }
+    ensures state { IfOk result (λ last. last ≡ after_repair options.now.dry
+        administrator.worker administrator.batch records.items db plan) }
     ensures err { IfErr result (λ e. e ≡ RunFault.Memory) }
 {
     let mut records = records;
@@ -183,8 +140,8 @@ fn run_repair(
     let mut db = db;
     begin(&mut db, administrator.worker, edits)?;
     make_meanwhile(alloc, out, &mut records, &mut db, administrator, calls)?;
-    finish(out, &mut db, administrator.worker, all)?;
-    push_after_switch(alloc, out, &db, &records, why)?;
+    let worker = administrator.worker;
+    finish(alloc, out, &mut db, worker, all, &records, options)?;
     Ok(db)
 }
 
@@ -200,7 +157,7 @@ fn run_document(
     ensures lines { OnOk result (out.new.items ≡ out.old.items
         ++ (text_of_records (records_if options.now.batch document document.repair)
         ++ repair_lines_if options.now document document.repair)) }
-    ensures database { IfOk result (λ db. db ≡ database_after options.now.batch document) }
+    ensures database { IfOk result (λ db. db ≡ database_after options.now document) }
     ensures err { IfErr result (λ e. e ≡ RunFault.Memory) }
 {
     let Document {
@@ -219,7 +176,7 @@ fn run_document(
                 worker: workers + 1,
                 batch: options.batch,
             };
-            run_repair(alloc, out, records, db, administrator, plan, options.why)
+            run_repair(alloc, out, records, db, administrator, plan, options)
         }
         None => Ok(db),
     }
@@ -233,7 +190,7 @@ pub(crate) fn report_of(
 ) -> Result<(Vec<u8>, Db), RunFault>
     requires { IsValidDocument document }
     ensures report { IfOk result (λ r. r.0.items ≡ report_of options.now document) }
-    ensures database { IfOk result (λ r. r.1 ≡ database_after options.now.batch document) }
+    ensures database { IfOk result (λ r. r.1 ≡ database_after options.now document) }
     ensures err { IfErr result (λ e. e ≡ RunFault.Memory) }
 {
     let mut out = Vec::new(alloc);

@@ -62,7 +62,7 @@ pub fn run_to_end<R: Read, W: Write>(
     ensures ok { OnOk result (IfSome (R.remaining reader.old) (λ xs.
         WritesReport options.now xs (W.contents writer.old) (W.contents writer.new))) }
     ensures database { IfOk result (λ end. IfSome (R.remaining reader.old) (λ xs.
-        LeavesDatabase options.now.batch xs end.db)) }
+        LeavesDatabase options.now xs end.db)) }
     ensures err { IfErr result (λ e. IfSome (R.remaining reader.old) (λ xs.
         EndsEarly options.now e xs (W.contents writer.old) (W.contents writer.new))) }
     ensures unchanged { IfErr result (λ e.
@@ -71,7 +71,7 @@ pub fn run_to_end<R: Read, W: Write>(
         (R.remaining reader.old) (R.remaining reader.new) }
 
     // Of any reader and writer.
-    ensures left { IfOk result (λ end. IsLeftByDocument options.now.batch end.db) }
+    ensures left { IfOk result (λ end. IsLeftByDocument options.now end.db) }
     ensures kind { IfErr result IsFaultOfRun }
 {
     let document = read_document(alloc, reader)?;

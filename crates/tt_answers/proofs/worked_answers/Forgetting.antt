@@ -74,9 +74,9 @@ slots = refl
 
 -- the calls are counted on
 changed : call_text accounts behind 16 (answers.Changes 7 (
-    record { place = places.Slot 2; change = record { call = 8; before = replies.Updated 1 ∷ []; after = afters.Cancelled } }
-    ∷ record { place = places.Time 3; change = record { call = 9; before = []; after = afters.Replies [] } }
-    ∷ []))
+    record { worker = None; place = places.Slot 2; change = record { call = 8; before = replies.Updated 1 ∷ []; after = afters.Cancelled }; asked = None }
+    ∷ record { worker = None; place = places.Time 3; change = record { call = 9; before = []; after = afters.Replies [] }; asked = None }
+    ∷ []) None)
     ≡ (codes "{\"call\":16,\"from\":7,\"changed\":[{\"call\":8,\"slot\":4,\"before\":[{\"updated\":1}],\"after\":\"cancelled\"},"
     ++ codes "{\"call\":9,\"time\":5,\"before\":[],\"after\":[]}]}\n")
 unfolding digits
@@ -131,3 +131,18 @@ explained : call_text accounts behind 22 (answers.Causes 4 (
     ++ codes "{\"slot\":6,\"because\":\"wrote\",\"table\":\"acct\",\"key\":1,\"since\":4}],\"more\":true}\n")
 unfolding digits
 explained = refl
+
+-- the rows that differ, of which only the slots done are numbered
+different : call_text accounts behind 23 (answers.Differences 4 (
+    record { table = 0; change = record { key = pos 1; before = None; after = Some (account (pos 1) (codes "ann") (pos 5)) } } ∷ []) None)
+    ≡ codes "{\"call\":23,\"done\":6,\"diff\":[{\"table\":\"acct\",\"key\":1,\"before\":null,\"after\":[1,\"ann\",5]}]}\n"
+unfolding digits
+different = refl
+
+-- what a repair would come to: its count isn't a number of a slot
+tried : call_text accounts behind 24 (answers.Trial 4 1 (record { slot = 2; cause = causes.Edited } ∷ [])
+    (record { worker = None; place = places.Slot 2; change = record { call = 2; before = replies.Updated 1 ∷ []; after = afters.Cancelled }; asked = None } ∷ []) [])
+    ≡ (codes "{\"call\":24,\"slots\":6,\"rerun\":1,\"redone\":[{\"slot\":4,\"because\":\"edited\"}],"
+    ++ codes "\"changed\":[{\"call\":2,\"slot\":4,\"before\":[{\"updated\":1}],\"after\":\"cancelled\"}],\"diff\":[]}\n")
+unfolding digits
+tried = refl

@@ -24,7 +24,7 @@ previewed : call_text accounts nothing_forgotten 8 (answers.Previewed 1 (record 
 unfolding digits
 previewed = refl
 
-unchanged : call_text accounts nothing_forgotten 11 (answers.Changes 1 []) ≡ codes "{\"call\":11,\"from\":1,\"changed\":[]}\n"
+unchanged : call_text accounts nothing_forgotten 11 (answers.Changes 1 [] None) ≡ codes "{\"call\":11,\"from\":1,\"changed\":[]}\n"
 unfolding digits
 unchanged = refl
 
@@ -33,16 +33,18 @@ unfolding digits
 finished = refl
 
 changed : call_text accounts nothing_forgotten 13 (answers.Changes 1 (
-    record { place = places.Slot 2; change = record { call = 2; before = replies.Updated 1 ∷ []; after = afters.Cancelled } }
+    record { worker = None; place = places.Slot 2; change = record { call = 2; before = replies.Updated 1 ∷ []; after = afters.Cancelled }; asked = None }
     ∷ record {
+      worker = None;
       place = places.Time 2;
       change = record {
         call = 3;
         before = replies.Rows (account (pos 1) (codes "ann") (pos 0) ∷ []) ∷ [];
         after = afters.Replies (replies.Rows (account (pos 1) (codes "ann") (pos 10) ∷ []) ∷ []);
       };
+      asked = None;
     }
-    ∷ []))
+    ∷ []) None)
     ≡ (codes "{\"call\":13,\"from\":1,\"changed\":[{\"call\":2,\"slot\":2,\"before\":[{\"updated\":1}],\"after\":\"cancelled\"},"
     ++ codes "{\"call\":3,\"time\":2,\"before\":[[1,\"ann\",0]],\"after\":[[1,\"ann\",10]]}]}\n")
 unfolding digits

@@ -6,13 +6,13 @@ use Rattle.clap.specs.declared.error.kind.ErrorKind.TheVariants.{MissingRequired
 use Rattle.clap.proofs.OnLiterals.{clap_on_literals}
 use Rattle.tt_workload.specs.declared.options.Options.{Options}
 use Rattle.tt_cli.specs.declared.command_line.Cli.TheVariants as commands
-use Rattle.tt_cli.specs.CommandLine.{fault_of_words, IsCommandOf, IsBatchOf, IsRoundsOf, IsClosedOf, IsWhyOf}
+use Rattle.tt_cli.specs.CommandLine.{fault_of_words, IsCommandOf, IsBatchOf, IsRoundsOf, IsClosedOf, IsWhyOf, IsDiffOf, IsDryOf}
 
 -- the words of a command line, behind the program's name
 abbrev line : List Text → List Text
 line words = codes "timetravel" ∷ words
 
--- `run` without options: a batch of 16, 8 rounds, and neither closed generations nor causes in the report
+-- `run` without options: a batch of 16, 8 rounds, neither closed generations nor causes nor differences in the report, and no dry run
 abbrev run_alone : List Text
 run_alone = line (codes "run" ∷ [])
 
@@ -40,6 +40,14 @@ why_of_run : (given : Bool) → IsWhyOf run_alone given → given ≡ false
 unfolding IsWhyOf clap_on_literals
 why_of_run given is = is
 
+diff_of_run : (given : Bool) → IsDiffOf run_alone given → given ≡ false
+unfolding IsDiffOf clap_on_literals
+diff_of_run given is = is
+
+dry_of_run : (given : Bool) → IsDryOf run_alone given → given ≡ false
+unfolding IsDryOf clap_on_literals
+dry_of_run given is = is
+
 -- `--why` asks for causes alone
 abbrev replay_why : List Text
 replay_why = line (codes "replay" ∷ codes "--why" ∷ [])
@@ -51,6 +59,30 @@ why_of_replay given is = is
 closed_of_replay : (given : Bool) → IsClosedOf replay_why given → given ≡ false
 unfolding IsClosedOf clap_on_literals
 closed_of_replay given is = is
+
+diff_of_replay : (given : Bool) → IsDiffOf replay_why given → given ≡ false
+unfolding IsDiffOf clap_on_literals
+diff_of_replay given is = is
+
+-- `--dry` and `--diff` are read each by its own word
+abbrev replay_dry : List Text
+replay_dry = line (codes "replay" ∷ codes "--dry" ∷ [])
+
+dry_of_replay : (given : Bool) → IsDryOf replay_dry given → given ≡ true
+unfolding IsDryOf clap_on_literals
+dry_of_replay given is = is
+
+diff_of_dry_replay : (given : Bool) → IsDiffOf replay_dry given → given ≡ false
+unfolding IsDiffOf clap_on_literals
+diff_of_dry_replay given is = is
+
+diff_of_run_with_diff : (given : Bool) → IsDiffOf (line (codes "run" ∷ codes "--diff" ∷ [])) given → given ≡ true
+unfolding IsDiffOf clap_on_literals
+diff_of_run_with_diff given is = is
+
+dry_run_in_threads_is_refused : fault_of_words (line (codes "run" ∷ codes "--dry" ∷ [])) ≡ UnknownArgument ∷ []
+unfolding fault_of_words clap_on_literals
+dry_run_in_threads_is_refused = refl
 
 -- `replay` without options, which takes no rounds
 abbrev replay_alone : List Text

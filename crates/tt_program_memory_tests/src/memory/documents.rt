@@ -123,6 +123,8 @@ fn a_document_is_run_alone(rt: HostRuntime) {
         rounds: 8,
         closed: false,
         why: false,
+        diff: false,
+        dry: false,
     };
     let (mut first, mut second) = (REPAIRED.as_bytes(), REPAIRED.as_bytes());
     let mut writer = Cursor::new([0u8; 512]);

@@ -57,6 +57,8 @@ fn runs<T: Threads + Wait + Abort + Sync>(rt: &T, alloc: Global, document: &Docu
         rounds: 1,
         closed: false,
         why: false,
+        diff: false,
+        dry: false,
     };
     mark(alloc);
     let report = run_workers(rt, alloc, document, &options, NoGate);

@@ -4,16 +4,16 @@ ghost use Rattle.std.specs.Arc.{arc_value};
 ghost use Rattle.tt_db.specs.Limits.{usual_limits};
 ghost use Rattle.tt_store.specs.Published.{RuleIsMembership};
 
-use super::{all, bank, delete_bob, one, rows, same, writes_five_slots};
+use super::{all, bank, delete_bob, one, row, rows, same, writes_five_slots};
 use std::alloc::Global;
 use std::marker::Brand;
 use std::process::Abort;
 use std::sync::{Arc, Wait};
 use std::test::*;
-use tt_db::{Db, Limits};
+use tt_db::{Db, FirstChanges, Limits, ReadError, RowChange};
 use tt_repair::{After, Changed, Record, Repaired, What, changes, repair};
 use tt_store::{Naming, NoGate, Opened, Store, Worker};
-use tt_values::{Catalog, Reply, Shared};
+use tt_values::{Catalog, Items, Reply, Shared};
 
 #[test]
 fn a_repair_changes_replies(rt: HostRuntime) {
@@ -34,10 +34,48 @@ fn repairs<L: Naming, T: Wait + Abort>(rt: &T, alloc: Global, opened: Opened, ca
     let (store, mut workers) = opened.expect(rt, "a store");
     let mut worker = workers.pop().expect(rt, "a worker");
     writes_five_slots(rt, alloc, &store, &mut worker);
+    tries_slot_four(rt, alloc, &worker);
     repairs_slot_four(rt, alloc, &store, &mut worker);
+    three_differed(rt, alloc, &worker);
     workers.push(worker).expect(rt, "memory");
     let db = closed(rt, store, workers);
     tells_changes(rt, alloc, db.get());
+}
+
+/// Asserts what a repair of the five slots would come to, and that nothing of it is kept.
+fn tries_slot_four<L: Naming>(rt: &impl Abort, alloc: Global, worker: &Worker<L>) {
+    let trial = worker.tried(delete_bob(rt, alloc)).expect(rt, "a trial");
+    let progress = trial.repair().expect(rt, "a repair");
+    assert_eq!(rt; (progress.done, progress.rerun), (5, 2));
+    let differences = trial.diff(0).expect(rt, "differences");
+    assert_eq!(rt; differences.as_slice().len(), 3);
+    same(rt, &worker.diff(0), &Err(ReadError::NotRepairing));
+    same(
+        rt,
+        &worker.diff_page(0, None, 1),
+        &Err(ReadError::NotRepairing),
+    );
+}
+
+/// Asserts which rows differed at the switch of the repair: two that came, and the last, which went.
+fn three_differed<L: Naming>(rt: &impl Abort, alloc: Global, worker: &Worker<L>) {
+    let differences = worker.diff_in(0, 0).expect(rt, "differences");
+    assert_eq!(rt; differences.as_slice().len(), 3);
+    let last = RowChange {
+        key: 3,
+        before: Some(row(rt, alloc, (3, "bob", 8))),
+        after: None,
+    };
+    let page = worker.diff_page_in(0, 0, Some(2), 1).expect(rt, "a page");
+    let changes = Items::of(alloc, [last]).expect(rt, "memory");
+    same(
+        rt,
+        &page,
+        &FirstChanges {
+            changes,
+            more: false,
+        },
+    );
 }
 
 /// Asserts what a repair of the five slots returns.

@@ -13,6 +13,8 @@ fn one_byte_at_a_time(rt: HostRuntime) {
             rounds: 0,
             closed: false,
             why: false,
+            diff: false,
+            dry: false,
         }
         .fits()
     );

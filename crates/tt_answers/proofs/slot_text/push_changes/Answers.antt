@@ -10,7 +10,7 @@ use Rattle.tt_answers.proofs.slot_text.push_changes.Goals as goal
 pub returns : goal.returns
 returns c =
     subst (λ t. c.push-2.new.self.items ≡ c.args.out.now.items ++ t)
-    (array_text-first (change_text c.args.numbering) c.args.changes.now c.first-item.result c.in-len1-up.len_at_least c.first-item.is)
+    (array_text-first (change_text c.args.catalog.now c.args.numbering) c.args.changes.now c.first-item.result c.in-len1-up.len_at_least c.first-item.is)
     (four-pieces c.args.out.now.items c.push.new.self.items c.push_change.new.out.items c.push_further_changes.new.out.items c.push-2.new.self.items
-    (codes "[") (change_text c.args.numbering c.first-item.result) (flat_map further_item (map (change_text c.args.numbering) (take (length c.args.changes.now - 1) (drop 1 c.args.changes.now)))) (codes "]")
+    (codes "[") (change_text c.args.catalog.now c.args.numbering c.first-item.result) (flat_map further_item (map (change_text c.args.catalog.now c.args.numbering) (take (length c.args.changes.now - 1) (drop 1 c.args.changes.now)))) (codes "]")
     c.in_ok-push.ensures.items c.in_ok-push_change.ensures c.in_ok-push_further_changes.ensures c.in_ok-push-2.ensures.items)

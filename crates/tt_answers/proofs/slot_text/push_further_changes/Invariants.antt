@@ -7,5 +7,5 @@ use Rattle.tt_answers.proofs.slot_text.push_further_changes.Given as goal
 
 abbrev pub invariant-loop-change : goal.invariant-loop-change
 invariant-loop-change l =
-    l.out.items ++ flat_map further_item (map (change_text l.numbering) (drop l.change-index l.changes))
-    ≡ l.fn.out.items ++ flat_map further_item (map (change_text l.numbering) l.changes)
+    l.out.items ++ flat_map further_item (map (change_text l.catalog l.numbering) (drop l.change-index l.changes))
+    ≡ l.fn.out.items ++ flat_map further_item (map (change_text l.catalog l.numbering) l.changes)

@@ -5,7 +5,7 @@ use Rattle.tt_db.specs.declared.event.Event.{Event}
 use Rattle.tt_db.specs.State.{next_state, slots_left}
 use Rattle.tt_db.specs.Database.{state_of}
 use Rattle.tt_commands.specs.Room.{has_no_room_to_end}
-use Rattle.tt_commands.proofs.RoomLemmas.{no_room-begin, no_room-step}
+use Rattle.tt_commands.proofs.RoomLemmas.{no_room-step}
 use Rattle.tt_commands.proofs.room.leaves_no_room.Goals as goal
 
 pub returns-in-Write : goal.returns-in-Write
@@ -19,8 +19,7 @@ pub returns-in-Begin : goal.returns-in-Begin
 returns-in-Begin c =
     let db = c.args.db.now in
     let S = state_of db in
-    (λ i. nat_le (c.room_behind_entry.ensures i) (c.now.ensures i))
-    ∙ no_room-begin db c.in-Begin.field-0
+    c.beginning_leaves_no_room.ensures c.in-Begin.field-0
     ∙ ap (λ (e : Event). has_no_room_to_end db.limits (next_state db.limits S e)) (sym c.in-Begin.is)
 
 pub returns-then-is_repairing : goal.returns-then-is_repairing
@@ -29,7 +28,7 @@ returns-then-is_repairing c =
     let S = state_of db in
     let left : c.saturating_sub.result ≡ slots_left S - 1 = c.saturating_sub.ensures ∙ ap (λ n. n - 1) c.slots_left.ensures.left in
     let repairing : is_repairing S.phase ≡ true = sym c.is_repairing.ensures ∙ c.if-is_repairing.true in
-    (λ i. nat_le (c.room_behind_entry-then-is_repairing.ensures i) (left i))
+    (λ i. nat_le (c.room_behind_entry.ensures i) (left i))
     ∙ ap (λ b. b && nat_le (db.limits.events - length db.history - 1) (slots_left S - 1)) (sym repairing)
     ∙ no_room-step db
     ∙ ap (λ (e : Event). has_no_room_to_end db.limits (next_state db.limits S e)) (sym c.in-Step.is)

@@ -111,7 +111,7 @@ returns-in-Some-clause-database c =
     let state = database-after_calls document c.new-db.result c.in_ok-db.db c.into_vec.result.items new c.in_ok-db.ensures.state c.into_vec.ensures in
     let records = records-kept document plan c.new-records.result.items _ c.is_some-are_kept.result c.new-db.result c.into_vec.result.items c.in-Some.is c.is_some-are_kept.ensures c.new-records.ensures.items new c.into_vec.ensures c.in_ok-db.ensures.records in
     if_ok c.run_repair.result
-    (λ last is. subst (λ (p : Option Plan). last ≡ database_if c.args.options.now.batch document p) (sym c.in-Some.is) (repaired-database c.args.options.now.batch document plan _ c.in_ok-db.db last state records is))
+    (λ last is. subst (λ (p : Option Plan). last ≡ database_if c.args.options.now document p) (sym c.in-Some.is) (repaired-database c.args.options.now document plan _ c.in_ok-db.db last state records is))
     c.run_repair.ensures.state
 
 pub returns-in-None-clause-lines : goal.returns-in-None-clause-lines

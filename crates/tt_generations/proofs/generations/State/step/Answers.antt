@@ -12,12 +12,6 @@ use Rattle.tt_generations.specs.Generations.{phase_of, AreGenerations}
 use Rattle.tt_generations.proofs.GenerationsLemmas.{IsAtSlot-found, AreGenerations-step}
 use Rattle.tt_generations.proofs.generations.State.step.Goals as goal
 
-pub step-requires-clause-few_reexecuted : goal.step-requires-clause-few_reexecuted
-step-requires-clause-few_reexecuted c =
-    let g = c.args.self.now in
-    let at = IsAtSlot-found g.catalog g.slots g.rows g.repair c.in-Some.repair c.in-Some-get.kept.now c.requires.parts c.in-Some.is (subst (λ (r : Repair). slice_get g.slots r.done ≡ Some c.in-Some-get.kept.now) c.deref.ensures (sym c.get.ensures ∙ ap option_copied c.in-Some-get.is)) in
-    at.few
-
 pub step-requires-clause-keyed : goal.step-requires-clause-keyed
 step-requires-clause-keyed c =
     let g = c.args.self.now in

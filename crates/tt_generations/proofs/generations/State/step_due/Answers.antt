@@ -12,12 +12,6 @@ use Rattle.tt_generations.specs.Generations.{phase_of, AreGenerations}
 use Rattle.tt_generations.proofs.GenerationsLemmas.{IsAtSlot-found, AreGenerations-due}
 use Rattle.tt_generations.proofs.generations.State.step_due.Goals as goal
 
-pub reexecute-requires-clause-few_reexecuted : goal.reexecute-requires-clause-few_reexecuted
-reexecute-requires-clause-few_reexecuted c =
-    let g = c.args.self.now in
-    let at = IsAtSlot-found g.catalog g.slots g.rows g.repair c.in-Some.repair c.in-Some-get.kept.now c.requires.parts c.in-Some.is (subst (λ (r : Repair). slice_get g.slots r.done ≡ Some c.in-Some-get.kept.now) c.deref.ensures (sym c.get.ensures ∙ ap option_copied c.in-Some-get.is)) in
-    at.few
-
 pub reexecute-requires-clause-numbers : goal.reexecute-requires-clause-numbers
 reexecute-requires-clause-numbers c =
     let g = c.args.self.now in

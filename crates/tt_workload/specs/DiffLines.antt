@@ -1,0 +1,54 @@
+-- The lines of the rows that differ between the generations.
+use Rattle.std.specs.Prelude.{ℕ, Bool, true, false, List, [], ◌++◌, length, Option, None, Some, Result, Ok, Err, codes}
+use Rattle.std.specs.List.{flat_map, range_with_len}
+use Rattle.tt_values.specs.declared.row.Row.{Row}
+use Rattle.tt_values.specs.Tables.{Tables}
+use Rattle.tt_causes.specs.Differences.{RowChange}
+use Rattle.tt_db.specs.declared.errors.ReadError.{ReadError}
+use Rattle.tt_db.specs.Database.{Database}
+use Rattle.tt_db.specs.Differences.{right_diff, right_diff_in}
+use Rattle.tt_grammar.specs.Printing.{row_text}
+use Rattle.tt_workload.specs.declared.told_repair.ToldRepair.{ToldRepair}
+use Rattle.tt_workload.specs.declared.told_repair.ToldRepair.TheVariants.{UnderWay, ThatClosed}
+use Rattle.tt_workload.specs.CauseLines.{row_name}
+
+-- the answer to a read that isn't refused. One that is has no items
+abbrev pub items_read : {X : Type 0} → Result (List X) ReadError → List X
+items_read (Ok items) = items
+items_read (Err refusal) = []
+
+-- the rows of a table that differ by a repair, by rising key
+abbrev pub differences_by : Database → ToldRepair → ℕ → List RowChange
+differences_by db UnderWay table = items_read (right_diff db table)
+differences_by db (ThatClosed generation) table = items_read (right_diff_in db generation table)
+
+-- a row, or that there is none
+abbrev pub row_or_none : Option Row → List ℕ
+row_or_none None = codes "none"
+row_or_none (Some row) = row_text row
+
+-- the rest of the line of a row that differs: what it is in both generations
+abbrev pub sides_text : Option Row → Option Row → List ℕ
+sides_text before after = codes " " ++ (row_or_none before ++ (codes " -> " ++ (row_or_none after ++ codes "\n")))
+
+-- the line of a row that differs: its name, and both sides
+abbrev pub diff_line : Tables → ℕ → RowChange → List ℕ
+diff_line tables table c =
+    codes "diff " ++ (row_name tables (record { table = table; key = c.key }) ++ sides_text c.before c.after)
+
+-- the lines of a table
+abbrev pub table_diff_lines : Database → ToldRepair → ℕ → List ℕ
+table_diff_lines db repair table = flat_map (λ c. diff_line db.catalog table c) (differences_by db repair table)
+
+-- the lines of so many tables, from this one on
+abbrev pub diff_lines_from : Database → ToldRepair → ℕ → ℕ → List ℕ
+diff_lines_from db repair table count = flat_map (λ t. table_diff_lines db repair t) (range_with_len table count)
+
+-- the lines of the rows that differ by a repair
+abbrev pub diff_lines : Database → ToldRepair → List ℕ
+diff_lines db repair = diff_lines_from db repair 0 (length db.catalog)
+
+-- the same, where they are asked for
+abbrev pub diff_lines_if : Bool → Database → ToldRepair → List ℕ
+diff_lines_if false db repair = []
+diff_lines_if true db repair = diff_lines db repair
