@@ -8,8 +8,8 @@ Run it at the repository's root. ./test runs all of it, after its proofs.
 from tests.support.loading import loader_of
 
 # The parts in the order in which they run.
-MODULES = ['tools', 'documents', 'sessions', 'command_lines', 'forgetting', 'client', 'serving', 'replicas',
-           'hostile', 'logs', 'logs_anew', 'logs_at_rest', 'failing_logs', 'failing_files', 'disks', 'public_calls',
-           'docs', 'launcher', 'types']
+MODULES = ['tools', 'documents', 'json_reports', 'repairs_by_model', 'sessions', 'session_limits', 'command_lines',
+           'forgetting', 'client', 'serving', 'replicas', 'hostile', 'logs', 'logs_anew', 'logs_at_rest',
+           'failing_logs', 'failing_files', 'disks', 'public_calls', 'docs', 'launcher', 'types']
 
 load_tests = loader_of(__name__, MODULES)

@@ -93,7 +93,7 @@ def faulty_runs(command: str) -> Iterator[Case]:
     yield faulty(f'{command} --batch 0', "invalid value '0' for '--batch <N>': 0 is not in 1..=10000")
     yield unexpected(f'{command} --batch 16 now', 'now', usage)
     yield early(f'--batch 16 {command}', '--batch', command)
-    for flag in '--closed', '--why', '--diff':
+    for flag in '--closed', '--why', '--diff', '--json':
         yield from faulty_flags(command, flag)
 
 
@@ -111,8 +111,8 @@ def faulty_dry_runs() -> Iterator[Case]:
 
 def faulty_sessions() -> Iterator[Case]:
     usage = 'session [OPTIONS]'
-    for word in ('--quick', 'now', '--batch', '--rounds', '--closed', '--why', '--diff', '--dry', '--version', 'session',
-                 'replay'):
+    for word in ('--quick', 'now', '--batch', '--rounds', '--closed', '--why', '--diff', '--json', '--dry', '--version',
+                 'session', 'replay'):
         yield unexpected(f'session {word}', word, usage)
     yield unexpected('session --batch 16', '--batch', usage)
     yield unexpected('session --rounds 8', '--rounds', usage)

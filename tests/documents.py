@@ -5,8 +5,8 @@ memory they take.
                               line stand in NAME.options. A document whose report is the same in every
                               order is run in threads, too; NAME.run has a line of options for each
                               further run in threads. NAME.why is the report with `--why`, NAME.diff
-                              that with `--why --diff`, and NAME.dry that of `replay` with
-                              `--dry --why --diff`
+                              that with `--why --diff`, NAME.jsonl that with `--json --why --diff`,
+                              and NAME.dry that of `replay` with `--dry --why --diff`
   tests/refused/              faults, each with the document that has it, or a part of it
 """
 import resource
@@ -25,7 +25,8 @@ from tests.support.progress import progress
 from tests.support.texts import blocks_of, copies, faults_of, sevens, shown_by_help, text_of
 
 COMMANDS = ['replay', 'run']
-TOLD = {'why': ['--why'], 'diff': ['--why', '--diff'], 'dry': ['--dry', '--why', '--diff']}
+TOLD = {'why': ['--why'], 'diff': ['--why', '--diff'], 'jsonl': ['--json', '--why', '--diff'],
+        'dry': ['--dry', '--why', '--diff']}
 ACCOUNTS = ('{"name":"acct","columns":[{"name":"id","kind":"int"},'
             '{"name":"owner","kind":"text","partition":true},{"name":"bal","kind":"int"}]}')
 

@@ -49,10 +49,12 @@ HELD = ['tests/sessions/incident_in_short', 'tests/sessions/repairs', 'tests/ses
         'tests/sessions/comparisons', 'tests/sessions/whole_actions',
         'tests/sessions/openings_at_any_time', 'tests/sessions/whose_repair',
         'tests/sessions/forgetting', 'tests/sessions/forgetting_many_rows', 'tests/sessions/why_pages',
-        'tests/sessions/diff_pages', 'tests/sessions/would', 'tests/sessions/changes_by_pages']
+        'tests/sessions/diff_pages', 'tests/sessions/would', 'tests/sessions/changes_by_pages',
+        'tests/sessions/stamps_forgetting']
 
 # Those that are held with a log, too, and in about how many ways each.
-ON_A_LOG, WAYS = ['tests/sessions/forgetting', 'tests/sessions/forgetting_many_rows'], 150
+ON_A_LOG, WAYS = ['tests/sessions/forgetting', 'tests/sessions/forgetting_many_rows',
+                  'tests/sessions/stamps_forgetting'], 150
 
 # In about how many ways a session of many lines is held with too little memory.
 MANY_WAYS = 60

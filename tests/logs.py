@@ -14,7 +14,7 @@ from typing import Optional
 from tests.support.crashes import FOR_GOOD, TEARS, CrashCase, Hold
 from tests.support.held_session import PATIENCE, Ended
 from tests.support.log_files import (
-    CANNOT_ANSWER, CANNOT_READ, CANNOT_WRITE, IN_USE, OPENING, OPENINGS, ROWS, STATUS, WIDE, LogCase, cause_of,
+    CANNOT_ANSWER, CANNOT_READ, CANNOT_WRITE, IN_USE, OPENING, OPENINGS, ROWS, SLOTS, STATUS, WIDE, LogCase, cause_of,
     is_told, logged, text_of, write)
 from tests.support.mounts import in_a_mount
 
@@ -25,7 +25,7 @@ LINES = [
     '"where":[["id",1]]}]}',
     '{"status":true}',
     '{"insert":"acct","row":[1,"ann"]}',
-    '{"worker":2,"delete":"acct","where":[["owner","bob"]]}',
+    '{"worker":2,"delete":"acct","where":[["owner","bob"]],"stamp":1000}',
     '{"select":"acct","where":[]}',
     '{"begin":[{"cancel":1}]}',
     '{"insert":"acct","row":[3,"eve",7]}',
@@ -33,7 +33,7 @@ LINES = [
     '{"begin":[]}',
     '{"finish":true}',
     '{"changes":"now"}',
-    '{"insert":"acct","row":[4,"dan",7]}',
+    '{"insert":"acct","row":[4,"dan",7],"stamp":18446744073709551615}',
 ]
 # Whether the line is logged.
 IS_LOGGED = [1, 1, 1, 0, 0, 1, 0, 1, 1, 1, 0, 1, 0, 1]
@@ -42,6 +42,7 @@ COMPARED = '{"update":"acct","change":[["add","bal",-40]],"where":[["id",1],["ba
 NO_LOGS = [('{"version":2}\n', 1), ('acct 3 rows\n', 1),
            *((text_of([OPENING.replace(':2', version), LINES[1]]), 1) for version in (':1', ':5', ':"2"')),
            (text_of([OPENING, LINES[1], COMPARED.replace('>=', '=>')]), 3),
+           (text_of([OPENING, LINES[1], '{"do":[],"stamp":-1}']), 3),
            (text_of([OPENING, '{"status":true}']), 2),
            (text_of([OPENING, '', LINES[1]]), 2)]
 FILL = """
@@ -77,6 +78,21 @@ class Logs(Answered):
                 self.assert_same(len(logged(file)), sum(IS_LOGGED[:count]), 'lines of the log')
                 self.assert_room(file, logged(file), 'killed')
                 self.assert_goes_on(file, 'killed')
+
+    def test_stamps_are_there_after_a_start(self) -> None:
+        lines = [OPENING, '{"insert":"acct","row":[1,"ann",100],"stamp":0}',
+                 '{"stamp":18446744073709551615,"worker":2,"do":[],"whole":true}', '{"delete":"acct","where":[]}',
+                 '{"begin":[{"cancel":1}]}', '{"if":3,"insert":"acct","row":[2,"bob",0],"stamp":7}',
+                 '{"finish":true}']
+        given = [OPENING, SLOTS, '{"slots":[1,9],"stamps":[0,7]}']
+        for what, hold in {'at its end': self.whole, 'killed': self.killed}.items():
+            with self.subTest(f'a session that is left {what}'):
+                file = self.new_file()
+                hold(file, lines)
+                self.assert_lines(logged(file), lines, 'the log')
+                told = [json.loads(answer)['slots'] for answer in self.whole(file, given).answers[1:]]
+                self.assert_same([[(slot['slot'], slot.get('stamp')) for slot in slots] for slots in told],
+                                 [[(1, 0), (2, 2 ** 64 - 1), (3, None), (4, 7)], [(1, 0), (4, 7)]], 'a start')
 
     def test_a_file_that_is_no_log_is_refused_and_stays(self) -> None:
         file = self.new_file()

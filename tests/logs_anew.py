@@ -54,6 +54,8 @@ NO_GROUNDS: list[tuple[Sequence[str], int]] = [
     ((GROUND % ONE, '{"do":[]}'), 2),
     *(((GROUND % ONE, '{"do":[{"insert":"acct","row":[3,"eve",0]}],"whole":%s}' % whole), 2)
       for whole in ('true', 'false')),
+    ((GROUND % ONE, '{"do":[{"insert":"acct","row":[3,"eve",0]}],"stamp":1}'), 2),
+    ((GROUND % ONE, GROUND_ROWS[0], '{"do":[],"stamp":-1}'), 3),
     ((GROUND % ONE, '{"do":[{"insert":"acct","row":[3,"eve"]}]}'), 2),
     ((GROUND % ONE, '{"do":[{"update":"acct","change":[],"where":[]}]}'), 2),
     ((GROUND % ONE, '{"do":[{"insert":"acct","row":[1,"",0]},{"delete":"acct","where":[]}]}'), 2),
@@ -169,6 +171,23 @@ class Anew(Behind):
                     opened, selected = map(json.loads, self.whole(file, [again, ROWS]).answers)
                     self.assert_same((opened['time'], opened['horizon'], selected['rows']),
                                      (3, time, [[1, 'ann', 14]]), again)
+
+    def test_a_log_that_is_made_anew_has_the_stamps_of_what_is_kept(self) -> None:
+        file = self.new_file()
+        lines = [OPENING, '{"insert":"acct","row":[1,"ann",30],"stamp":10}',
+                 '{"stamp":20,"worker":2,"delete":"acct","where":[["bal","<",0]]}',
+                 '{"insert":"acct","row":[2,"bob",0]}', '{"do":[],"whole":true,"stamp":18446744073709551615}',
+                 '{"begin":[{"cancel":2}]}', '{"finish":true}', FORGET % 1]
+        self.killed(file, lines)
+        wanted = ['{"do":[{"insert":"acct","row":[1,"ann",30]}]}', '{"worker":2,"do":[],"stamp":20}',
+                  '{"worker":1,"do":[{"insert":"acct","row":[2,"bob",0]}]}',
+                  '{"worker":1,"do":[],"whole":true,"stamp":18446744073709551615}']
+        for start in ('a first start', 'a second start'):
+            self.assert_lines(logged(file)[1:], wanted, start)
+            given = [OPENING, '{"slots":[0,9]}', '{"slots":[0,9],"stamps":[0,20]}']
+            told = [json.loads(answer)['slots'] for answer in self.whole(file, given).answers[1:]]
+            self.assert_same([[(slot['slot'], slot.get('stamp')) for slot in slots] for slots in told],
+                             [[(2, 20), (3, None), (4, 2 ** 64 - 1)], [(2, 20)]], start)
 
     def test_a_log_behind_a_link_is_made_anew(self) -> None:
         """The link stays one, and the file keeps its permissions."""

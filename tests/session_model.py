@@ -5,8 +5,8 @@ docs/SESSION.md says, by lists that it walks from the front, and shares no code 
   tests/session_model.py < LINES          prints the answers
   tests/session_model.py --random SEED    prints the lines of a random session
 
-It has memory for everything, and knows nothing of the limits of slots and entries. The tests of
-tests/hostile.py tell it of each line that was answered by `memory` (`Session.lose`).
+It has memory for everything. The tests of tests/hostile.py tell it of each line that was answered by
+`memory` (`Session.lose`).
 """
 import json
 import operator
@@ -24,6 +24,8 @@ KINDS = ['insert', 'update', 'delete', 'select', 'preview', 'do', 'begin', 'step
          'abort', 'status', 'slots', 'changes', 'tables', 'why', 'diff', 'would', 'forget']
 OF_REPAIRS = ['step', 'finish', 'abort']  # they may say whose repair they are for
 MOST_WRITES = 16  # of an action
+MOST_SLOTS, MOST_ENTRIES = 1_000_000, 4_000_000  # of a database and its history
+MOST_ROWS = 1_000_000  # of all selects that a record is kept of
 NOTHING = {'do': []}
 COMPARISONS = {'=': operator.eq, '!=': operator.ne, '<': operator.lt, '<=': operator.le,
                '>': operator.gt, '>=': operator.ge}
@@ -394,6 +396,7 @@ class Grammar:
         judge = None
         if kind in [*WRITES, 'do']:
             asked['action'], judge = self.action_of(members, kind)
+            asked['stamp'] = members.perhaps('stamp', a_count)
         elif kind in ('select', 'preview'):
             table = asked['table'] = members.take(kind, self.table)
             asked['where'] = members.take('where', self.where(table))
@@ -418,6 +421,8 @@ class Grammar:
             asked['slots'] = first, last
             asked['of'] = members.perhaps('of', a_worker)
             asked['row'] = members.perhaps('row', self.row)
+            asked['stamps'] = members.perhaps(
+                'stamps', lambda path, value: items(path, value, a_count, exactly=2))
         elif kind == 'changes':
             asked['changes'] = members.take('changes', a_word('now', 'next'))
             asked['of'] = members.perhaps('of', a_worker)
@@ -685,6 +690,11 @@ def is_opening(line):
     return isinstance(value, dict) and 'version' in value
 
 
+def is_from(stamps, stamp):
+    low, high = stamps
+    return stamp is not None and low <= stamp <= high
+
+
 class Session:
     """A session tells slots, times and generations that only grow. Its lists begin with `ground`
     slots that insert what was there at the time `horizon`, and with the generation `before`."""
@@ -736,7 +746,7 @@ class Session:
     def open(self, tables, keep):
         self.tables, self.keep, self.grammar = tables, keep, Grammar(tables)
         self.generations, self.repair, self.entries = [Generation(tables)], None, 0
-        self.workers, self.asked, self.records = [], [], []
+        self.workers, self.stamps, self.asked, self.records = [], [], [], []
 
     def answer_request(self, line):
         try:
@@ -796,17 +806,30 @@ class Session:
 
     def record(self, asked, **record):
         self.records.append({'call': self.calls, 'worker': asked['worker'], **record})
-        if len(self.records) > self.most_records:
+        while len(self.records) > self.most_records or 'table' in record and self.rows_of_records() > MOST_ROWS:
             del self.records[0]
 
+    def rows_of_records(self):
+        return sum(len(record['before']) for record in self.records if 'table' in record)
+
     def do_write(self, asked):
+        if len(self.current().slots) >= MOST_SLOTS:
+            raise Refusal('full', limit=MOST_SLOTS)
+        self.room_for(1 if self.repair is None else self.repair.left() + 3)
         self.current().push(asked['action'])
         self.entries += 1
         self.workers.append(asked['worker'])
+        self.stamps.append(asked['stamp'])
         self.asked.append(asked['action'])
         replies = self.current().replies[-1]
         self.record(asked, slot=self.now(), before=replies)
         return {'slot': self.now(), 'replies': replies}
+
+    def room_for(self, entries):
+        """The history has room for so many entries. A repair that is under way needs room for a step of each
+        slot that is left, and for the switch."""
+        if self.entries + entries > MOST_ENTRIES:
+            raise Refusal('full', limit=MOST_ENTRIES)
 
     def page(self, asked, rows):
         if asked['after'] is not None:
@@ -852,6 +875,7 @@ class Session:
         for at, slot in enumerate(slots):
             if slot in slots[:at]:
                 raise Refusal('edited twice', slot=slot)
+        self.room_for(len(self.current().slots) + 2)
         edits = [(self.place(slot), action) for slot, action in asked['edits']]
         return Repair(self.current(), edits, asked['worker'])
 
@@ -904,6 +928,7 @@ class Session:
         ground = ground_of(self.tables, current.contents[at])
         self.asked = ground + [action or NOTHING for action in current.slots[at:]]
         self.workers = [0] * len(ground) + self.workers[at:]
+        self.stamps = [None] * len(ground) + self.stamps[at:]
         self.generations, self.entries = [Generation(self.tables, self.asked)], len(self.asked)
         self.horizon, self.ground, self.before = time, len(ground), newest
         self.records = [record for record in self.records
@@ -924,14 +949,20 @@ class Session:
                 continue
             if row is not None and before.get(row) == after.get(row):
                 continue
+            if asked['stamps'] is not None and not is_from(asked['stamps'], self.stamps[at]):
+                continue
             action = current.slots[at]
-            entry = {'slot': slot, 'worker': self.workers[at], **(action or {'do': None}),
+            entry = {'slot': slot, 'worker': self.workers[at], **self.stamp(at), **(action or {'do': None}),
                      'replies': current.replies[at]}
             if action != self.asked[at]:
                 names = {'do': 'asked', 'whole': 'asked_whole'}
                 entry.update({names[name]: value for name, value in self.asked[at].items()})
             found.append(entry)
         return {'time': self.now(), 'slots': found}
+
+    def stamp(self, at):
+        """The member that tells the stamp of a place, if it has one."""
+        return {} if self.stamps[at] is None else {'stamp': self.stamps[at]}
 
     def do_changes(self, asked):
         generation = self.repairing().next if asked['changes'] == 'next' else self.current()
@@ -1097,6 +1128,30 @@ class Random:
         return self.one_of(faulty, {'begin': [{'replace': self.time, 'by': faulty}]},
                            {'status': True, 'whole': True}, {'whole': True})
 
+    def stamp(self):
+        return self.one_of(0, 1, self.time, self.time, self.time + 1, 1000, 2 ** 63, 2 ** 64 - 1)
+
+    def stamps(self):
+        low = self.one_of(0, 0, self.horizon, self.time // 2, self.time)
+        return [low, self.one_of(low, low + 2, low + 50, 999, 2 ** 64 - 1)]
+
+    def faulty_stamp(self):
+        """A stamp that is none, or where none may be."""
+        write, value = self.write(), self.one_of(-1, None, '1', [1], {}, True, 1.5)
+        whole = {'do': [write], 'whole': self.one_of(True, 1)}
+        by = {'begin': [{'replace': self.time, 'by': {**write, 'stamp': 1}}]}
+        return self.one_of(
+            {**write, 'stamp': value}, {'do': [write], 'stamp': value}, {**whole, 'stamp': value},
+            {'insert': 'acct', 'row': [1], 'stamp': value}, {'insert': 'acct', 'row': [1], 'stamp': 1},
+            {**write, 'stamp': value, 'a': 1}, {**write, 'stamp': 1, 'a': 1}, {'do': [{**write, 'stamp': 1}]},
+            by, {'would': by['begin']}, {'status': True, 'stamp': 1}, {'forget': 0, 'stamp': 1},
+            {'select': 'acct', 'where': [], 'stamp': 1}, {'stamp': 1})
+
+    def faulty_stamps(self):
+        return {'slots': [1, 9], **self.one_of({}, {'of': 0}, {'row': ['acct']}, {'row': ['acct', 1]}),
+                'stamps': self.one_of([1], [], [1, 2, 3], 1, None, [1, -1], ['1', 2], [None, 2], {}),
+                **self.one_of({}, {}, {'a': 1})}
+
     def edit(self):
         least = self.one_of(*[self.horizon + 1] * 8, 1, 0)
         slot = self.random.randint(least, max(least, self.time + self.one_of(0, 0, 0, 1)))
@@ -1192,7 +1247,7 @@ class Random:
         if kind == 'write':
             self.time += 1
             self.written[self.time] = self.action()
-            return dict(self.written[self.time])
+            return {**self.written[self.time], **self.one_of({}, {}, {'stamp': self.stamp()})}
         if kind == 'forget':
             return self.forget()
         if kind == 'select':
@@ -1209,14 +1264,16 @@ class Random:
             'status': {'status': True},
             'slots': {'slots': [first, first + self.one_of(0, 3, 9_999)],
                       **self.one_of({}, {'of': self.one_of(1, 2)}),
-                      **self.one_of({}, {'row': ['acct', self.key()]})},
+                      **self.one_of({}, {'row': ['acct', self.key()]}),
+                      **self.one_of({}, {'stamps': self.stamps()})},
             'changes': self.changes(),
             'why': self.why(),
             'diff': self.diff(),
             'would': self.would(),
             'tables': {'tables': True},
             'fault': self.one_of({'step': 0}, {'insert': 'acct', 'row': [1]}, {}, [], {'x': 1},
-                                 {'forget': -1}, self.faulty_whole(), self.faulty_whole()),
+                                 {'forget': -1}, self.faulty_whole(), self.faulty_whole(),
+                                 self.faulty_stamp(), self.faulty_stamp(), self.faulty_stamps()),
         }[kind]
 
     def lines(self, count):

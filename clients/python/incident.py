@@ -13,7 +13,8 @@ import sys
 from typing import Literal
 
 from timetravel import (
-    ChangedSelect, Column, Moved, Redone, Reply, Row, Session, Slot, Table, Trial, cancel, insert, update)
+    ChangedSelect, Column, Moved, Redone, Reply, Row, Session, Slot, Table, Trial, cancel, insert, milliseconds,
+    update)
 
 ACCOUNTS = Table("acct", [
     Column("id", "int"), Column("owner", "text", partition=True), Column("bal", "int")])
@@ -23,6 +24,8 @@ PAYMENTS = Table("payment", [
 DESK = 1    # the worker in whose name the bank's own desk writes
 WEB = 2    # and the one of its web pages
 OPERATOR = 9
+
+HOUR = 3_600_000    # milliseconds
 
 
 def pay(session: Session, worker: int, owner: str, payer: int, payee: int, amount: int) -> None:
@@ -124,9 +127,9 @@ def run(session: Session) -> None:
     pay(session, DESK, "bob", 2, 4, 10)
     pay(session, DESK, "ann", 1, 4, 40)
 
-    print("Ann complains. What has been written to her account by way of the web pages?")
-    now = session.status(worker=OPERATOR).time
-    suspects = session.slots(1, now, of=WEB, row=("acct", 1), worker=OPERATOR).slots
+    print("Ann complains. What have the web pages written to her account in the last hour?")
+    now = milliseconds()
+    suspects = list(session.find(of=WEB, row=("acct", 1), stamps=(now - HOUR, now), worker=OPERATOR))
     for slot in suspects:
         print_slot(slot)
     bad = [slot.slot for slot in suspects if slot.slot >= taken.slot]
@@ -174,7 +177,7 @@ def run(session: Session) -> None:
 
 def main() -> None:
     program = sys.argv[1] if len(sys.argv) > 1 else "timetravel"
-    with Session([ACCOUNTS, PAYMENTS], command=[program, "session"]) as session:
+    with Session([ACCOUNTS, PAYMENTS], clock=milliseconds, command=[program, "session"]) as session:
         run(session)
 
 

@@ -449,6 +449,57 @@ CONVERSATION: list[tuple[Any, str, str, Any]] = [
     (lambda s: s.changes(only="both"),
      '{"changes":"now","only":"both"}', '{"call":106,"fault":{"path":"$.only","cause":"out of range"}}',
      (Fault, {"path": "$.only", "cause": "out of range"})),
+    # Stamps of writes, and the slots that have some.
+    (lambda s: s.insert("acct", [7, "gil", 0], stamp=1000),
+     '{"insert":"acct","row":[7,"gil",0],"stamp":1000}',
+     '{"call":107,"slot":18,"replies":["inserted"]}', Written(107, 18, [Reply("inserted")])),
+    (lambda s: s.update("acct", where={"id": 7}, add={"bal": 1}, worker=3, if_time=18, stamp=0),
+     '{"worker":3,"if":18,"update":"acct","change":[["add","bal",1]],"where":[["id",7]],"stamp":0}',
+     '{"call":108,"slot":19,"replies":[{"updated":1}]}', Written(108, 19, [Reply("updated", 1)])),
+    (lambda s: s.delete("acct", {"id": 9}, stamp=2**63 - 1),
+     '{"delete":"acct","where":[["id",9]],"stamp":9223372036854775807}',
+     '{"call":109,"slot":20,"replies":[{"deleted":0}]}', Written(109, 20, [Reply("deleted", 0)])),
+    (lambda s: s.do([delete("acct", {"id": 9})], whole=True, stamp=1500),
+     '{"do":[{"delete":"acct","where":[["id",9]]}],"whole":true,"stamp":1500}',
+     '{"call":110,"slot":21,"replies":[{"deleted":0}]}', Written(110, 21, [Reply("deleted", 0)])),
+    (lambda s: s.send(insert("acct", [8, "gil", 0]), worker=3, stamp=2000).result(),
+     '{"worker":3,"insert":"acct","row":[8,"gil",0],"stamp":2000}',
+     '{"call":111,"slot":22,"replies":["inserted"]}', Written(111, 22, [Reply("inserted")])),
+    (lambda s: s.send({"delete": "acct", "where": [["id", 8]], "stamp": 2500}, stamp=1).result(),
+     '{"delete":"acct","where":[["id",8]],"stamp":2500}',
+     '{"call":112,"slot":23,"replies":[{"deleted":1}]}', Written(112, 23, [Reply("deleted", 1)])),
+    (lambda s: s.insert("acct", [7, "gil", 0]),
+     '{"insert":"acct","row":[7,"gil",0]}',
+     '{"call":113,"slot":24,"replies":["duplicate"]}', Written(113, 24, [Reply("duplicate")])),
+    (lambda s: s.slots(18, 99, of=3, row=("acct", 8), stamps=(0, 2000), if_time=24),
+     '{"if":24,"slots":[18,99],"of":3,"row":["acct",8],"stamps":[0,2000]}',
+     '{"call":114,"time":24,"slots":[{"slot":22,"worker":3,"stamp":2000,"do":[{"insert":"acct","row":[8,"gil",0]}],'
+     '"replies":["inserted"]}]}',
+     Slots(114, 24, [Slot(22, 3, [insert("acct", [8, "gil", 0])], [Reply("inserted")], stamp=2000)])),
+    (lambda s: s.slots(21, 24),
+     '{"slots":[21,24]}',
+     '{"call":115,"time":24,"slots":[{"slot":21,"worker":1,"stamp":1500,"do":[{"delete":"acct","where":[["id",9]]}],'
+     '"whole":true,"replies":[{"deleted":0}]},{"slot":22,"worker":3,"stamp":2000,"do":[{"insert":"acct",'
+     '"row":[8,"gil",0]}],"replies":["inserted"]},{"slot":23,"worker":1,"stamp":2500,"do":[{"delete":"acct",'
+     '"where":[["id",8]]}],"replies":[{"deleted":1}]},{"slot":24,"worker":1,"do":[{"insert":"acct",'
+     '"row":[7,"gil",0]}],"replies":["duplicate"]}]}',
+     Slots(115, 24, [
+         Slot(21, 1, [delete("acct", {"id": 9})], [Reply("deleted", 0)], None, True, False, 1500),
+         Slot(22, 3, [insert("acct", [8, "gil", 0])], [Reply("inserted")], None, False, False, 2000),
+         Slot(23, 1, [delete("acct", {"id": 8})], [Reply("deleted", 1)], None, False, False, 2500),
+         Slot(24, 1, [insert("acct", [7, "gil", 0])], [Reply("duplicate")], None, False, False, None)])),
+    (lambda s: s.send({"slots": [1, 99], "stamps": [2**63 - 1, 0]}).result(),
+     '{"slots":[1,99],"stamps":[9223372036854775807,0]}',
+     '{"call":116,"time":24,"slots":[]}', Slots(116, 24, [])),
+    (lambda s: s.insert("acct", [9, "gil", 0], stamp=-1),
+     '{"insert":"acct","row":[9,"gil",0],"stamp":-1}', '{"call":117,"fault":{"path":"$.stamp","cause":"wrong type"}}',
+     (Fault, {"path": "$.stamp", "cause": "wrong type"})),
+    (lambda s: s.do([{**delete("acct", {}), "stamp": 1}], stamp=1),
+     '{"do":[{"delete":"acct","where":[],"stamp":1}],"stamp":1}',
+     '{"call":118,"fault":{"path":"$.do[0]","cause":"unknown member \\"stamp\\""}}', (Fault, {"path": "$.do[0]"})),
+    (lambda s: s.slots(1, 9, stamps=(1,)),
+     '{"slots":[1,9],"stamps":[1]}', '{"call":119,"fault":{"path":"$.stamps","cause":"wrong type"}}',
+     (Fault, {"path": "$.stamps", "cause": "wrong type"})),
 ]
 
 

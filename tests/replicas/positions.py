@@ -71,7 +71,7 @@ class Positions(unittest.TestCase):
 
     # A log whose ground has two slots, that was made at time 5 when all before time 3 was forgotten.
     ANEW = (b'{"version":2,"ground":{"time":3,"generation":1,"slots":2}}\n'
-            b'{"do":[1]}\n{"do":[2]}\n{"worker":1,"do":[4]}\n{"worker":1,"do":[5]}\n')
+            b'{"do":[1]}\n{"do":[2]}\n{"worker":1,"do":[4]}\n{"worker":1,"do":[5],"whole":true,"stamp":9}\n')
 
     def noted_before(self, forgetting: Forgetting | None) -> Position:
         """The position of a log with one line behind which the session forgets."""

@@ -6,6 +6,7 @@ import json
 import os
 import signal
 import socket
+from typing import Literal
 
 from tests.support.client_package import needs_etcd
 from tests.support.clusters import ALL, OPENING, ReplicaProcess, WithEtcd, insert
@@ -102,6 +103,37 @@ class Requests(WithEtcd):
             tried = session.repair([cancel(2)], dry=True, worker=9)
             self.assertEqual(tried.diff, [Difference("acct", 1, [1, 8], [1, 11])])
             self.assertIsNone(session.status().repair)
+
+    def test_stamps_are_the_same_at_all_replicas(self) -> None:
+        """They are there after a start of a replica on its log, too."""
+        replicas = [self.replica("a", log=True), self.replica("b")]
+        for replica in replicas:
+            self.client(replica)
+        tables = [Table("acct", [Column("id", "int"), Column("bal", "int")])]
+        stamps = iter(range(100, 200))
+        with Session.connect(replicas[0].socket, tables, clock=lambda: next(stamps)) as session:
+            for key in range(5):
+                session.insert("acct", [key, 0], worker=key % 2 + 1)
+            session.delete("acct", {"id": 1}, stamp=7)
+            session.repair([cancel(3)])
+        self.assert_found(tables, replicas)
+        self.assertEqual(self.client(replicas[1]).ask({"forget": 1})["horizon"], 1)
+        self.assert_found(tables, replicas, 2)
+        replicas[0].send(signal.SIGTERM)
+        self.assertEqual(self.ended(replicas[0]), 0)
+        self.client(replicas[0].start())
+        self.assert_found(tables, replicas, 2)
+
+    def assert_found(self, tables: list[Table], replicas: list[ReplicaProcess], first: int = 1) -> None:
+        """The slots from the first one on have their stamps at each replica."""
+        stamps = {1: 100, 2: 101, 3: 102, 4: 103, 5: 104, 6: 7}
+        wanted = [(slot, stamp) for slot, stamp in stamps.items() if slot >= first]
+        ways: list[Literal["log", "replica"]] = ["log", "replica"]    # The first one waits for all that is written.
+        for replica in replicas:
+            for reads in ways:
+                with Session.connect(replica.socket, tables, reads=reads) as session:
+                    self.assertEqual([(slot.slot, slot.stamp) for slot in session.find()], wanted)
+                    self.assertEqual([slot.slot for slot in session.find(of=2, stamps=(100, 103))], [2, 4])
 
     def test_a_socket_that_is_handed_over(self) -> None:
         path = os.path.join(self.folder, "handed.socket")

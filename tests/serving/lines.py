@@ -2,16 +2,18 @@
 
 from __future__ import annotations
 
+import asyncio
 import json
 import os
 import re
+import signal
 import stat
 import threading
 from pathlib import Path
 
 from tests.support.served import (
-    ALL, BOUND, EMPTY, OPENING, STATUS, ServingCase, insert, metrics, samples)
-from timetravel import Column, Difference, Progress, Session, Table, cancel
+    ALL, BOUND, EMPTY, OPENING, STATUS, Server, ServingCase, insert, metrics, samples, until)
+from timetravel import Column, Difference, Progress, Session, Table, aio, cancel
 from timetravel.lines import LONGEST
 
 
@@ -103,6 +105,36 @@ class Lines(ServingCase):
         client.send(*[ALL] * 5)
         for _ in range(5):
             self.assertEqual(len(client.answer()["rows"]), number)
+
+    def test_stamps_of_several_connections(self) -> None:
+        """They are counted by the kind of the write, and are there after a start on the log."""
+        server = self.with_log("--restart")
+        plain = server.client()
+        table = Table("acct", [Column("id", "int"), Column("owner", "text", True), Column("bal", "int")])
+        stamps = iter(range(100, 200))
+        with Session.connect(server.path, [table], clock=lambda: next(stamps), reopen=True) as session:
+            session.insert("acct", [1, "ann", 0], worker=2)
+            self.assertEqual(plain.ask({**insert(2), "stamp": 101})["slot"], 2)
+            self.assertEqual(plain.ask({"delete": "acct", "where": [], "stamp": "x"})["fault"]["path"], "$.stamp")
+            self.assertEqual(plain.ask(insert(3))["slot"], 3)
+            session.delete("acct", {"id": 3}, stamp=7)
+            asyncio.run(self.write_as_task(server, table))
+            wanted = [(1, 100), (2, 101), (3, None), (4, 7), (5, 300)]
+            self.assertEqual([(slot.slot, slot.stamp) for slot in session.find()], wanted)
+            self.assertEqual([slot.slot for slot in session.find(of=1, stamps=(101, 300))], [2, 5])
+            self.assertEqual([slot["slot"] for slot in plain.ask({"slots": [1, 9], "stamps": [7, 100]})["slots"]],
+                             [1, 4])
+            found = samples(metrics(server.path))
+            self.assertEqual([found[f'timetravel_request_seconds_count{{kind="{kind}"}}']
+                              for kind in ("insert", "delete", "do")], [3, 2, 1])
+            os.kill(server.session(), signal.SIGKILL)
+            until(lambda: server.client().opened.get("time") == 5, "the session is started again")
+            self.assertEqual([(slot.slot, slot.stamp) for slot in session.find()], wanted)
+
+    async def write_as_task(self, server: Server, table: Table) -> None:
+        async with aio.Session.connect(server.path, [table], clock=lambda: 300) as session:
+            await session.do([], whole=True)
+            self.assertEqual([slot.slot async for slot in session.find(stamps=(300, 300))], [5])
 
     def test_a_dry_run_beside_a_writer(self) -> None:
         server = self.serving()

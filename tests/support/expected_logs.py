@@ -18,16 +18,17 @@ FORGETTING = [
     OPENING,
     json_of({'do': [{'insert': 'acct', 'row': [key, owner, 7]} for key, owner in
                     enumerate(['ann', 'b"ob\n', 'é'] * 5 + ['eve'], 1)]}),
-    '{"insert":"acct","row":[17,"ann",100]}',
-    '{"worker":2,"update":"acct","change":[["set","owner","dan"],["add","bal",-3]],"where":[["id",2]]}',
-    '{"worker":4294967295,"delete":"acct","where":[["owner","eve"]]}',
+    '{"insert":"acct","row":[17,"ann",100],"stamp":100}',
+    '{"worker":2,"update":"acct","change":[["set","owner","dan"],["add","bal",-3]],"where":[["id",2]],'
+    '"stamp":18446744073709551615}',
+    '{"stamp":0,"worker":4294967295,"delete":"acct","where":[["owner","eve"]]}',
     '{"forget":2}',
     '{"forget":2}',
     '{"insert":"acct","row":[18,"bob",40]}',
     '{"worker":9,"begin":[{"cancel":4},{"replace":3,"by":{"insert":"acct","row":[30,"",0]}}]}',
     '{"forget":3}',
     '{"step":3}',
-    '{"do":[]}',
+    '{"do":[],"whole":true,"stamp":7}',
     '{"finish":true}',
     '{"forget":2}',
     '{"forget":99}',
@@ -38,10 +39,10 @@ FORGETTING = [
     '{"begin":[]}',
     '{"abort":true}',
     '{"forget":5}',
-    '{"if":6,"update":"acct","change":[["set","bal",0]],"where":[]}',
+    '{"if":6,"update":"acct","change":[["set","bal",0]],"where":[],"stamp":100}',
     '{"insert":"acct","row":[1,"ann",0]}',
 ]
-QUESTIONS = [STATUS, '{"slots":[0,9999]}', ROWS, '{"tables":true}',
+QUESTIONS = [STATUS, '{"slots":[0,9999]}', '{"slots":[0,9999],"stamps":[1,100]}', ROWS, '{"tables":true}',
              *('{"select":"acct","where":[],"at":%d}' % time for time in range(1, 8))]
 
 
@@ -53,7 +54,7 @@ def size_of(session: Any) -> Optional[tuple[int, int]]:
 def made_anew(session: Any) -> list[str]:
     """The log that a session makes that has just forgotten."""
     ground = {'time': session.horizon, 'generation': session.before, 'slots': session.ground}
-    slots = [action if place < session.ground else {'worker': worker, **action}
+    slots = [action if place < session.ground else {'worker': worker, **action, **session.stamp(place)}
              for place, (worker, action) in enumerate(zip(session.workers, session.asked))]
     return [json_of(line) for line in [{**session.do_tables({}), 'ground': ground}, *slots]]
 

@@ -38,16 +38,18 @@ from .requests import (
     Change, Compared, Edit, NewRow, Where, Write, above, at_least, at_most, below, cancel, delete, do, insert,
     is_not, preview, replace, select, update)
 from .session import Session
+from .stamps import Clock, milliseconds
 from .tables import Column, Row, Table, Value
 
 __version__ = "0.1.0"
 
 __all__ = [
-    "AnotherOpening", "Answer", "Causes", "Change", "ChangedSelect", "ChangedWrite", "Changes", "Closed",
-    "Column", "Compared", "Difference", "Differences", "Disconnected", "Edit", "EditedTwice", "Ended", "Error",
-    "Fault", "Forgotten", "Forked", "Full", "Later", "LogFailed", "Lost", "Moved", "NewRow", "NoAnswer",
-    "NoGeneration", "NoSlot", "NotConnected", "NotRepairing", "NotStarted", "OutOfMemory", "Previewed",
-    "Progress", "Redone", "Refused", "Repair", "RepairOfAnother", "Repairing", "Reply", "Row", "Selected",
-    "Session", "Slot", "Slots", "Status", "Stepped", "Switched", "Table", "Tables", "Trial", "Value",
-    "Vanished", "Where", "Write", "Written", "above", "aio", "at_least", "at_most", "below", "cancel",
-    "delete", "do", "insert", "is_not", "preview", "replace", "select", "update"]
+    "AnotherOpening", "Answer", "Causes", "Change", "ChangedSelect", "ChangedWrite", "Changes", "Clock",
+    "Closed", "Column", "Compared", "Difference", "Differences", "Disconnected", "Edit", "EditedTwice",
+    "Ended", "Error", "Fault", "Forgotten", "Forked", "Full", "Later", "LogFailed", "Lost", "Moved",
+    "NewRow", "NoAnswer", "NoGeneration", "NoSlot", "NotConnected", "NotRepairing", "NotStarted",
+    "OutOfMemory", "Previewed", "Progress", "Redone", "Refused", "Repair", "RepairOfAnother",
+    "Repairing", "Reply", "Row", "Selected", "Session", "Slot", "Slots", "Status", "Stepped", "Switched",
+    "Table", "Tables", "Trial", "Value", "Vanished", "Where", "Write", "Written", "above", "aio",
+    "at_least", "at_most", "below", "cancel", "delete", "do", "insert", "is_not", "milliseconds",
+    "preview", "replace", "select", "update"]

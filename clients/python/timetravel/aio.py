@@ -20,12 +20,13 @@ from typing import Any, Literal, TypeVar, overload
 from . import answers, program, requests
 from .aio_channels import Connection, Program
 from .answers import (
-    Causes, Changes, Decode, Differences, Previewed, Progress, Selected, Slots, Status, Stepped, Switched, Tables,
-    Trial, Written)
+    Causes, Changes, Decode, Differences, Previewed, Progress, Selected, Slot, Slots, Status, Stepped, Switched,
+    Tables, Trial, Written)
 from .errors import Closed, Error, Forked, NoAnswer, NotRepairing, Refused, RepairOfAnother
 from .keeping import Keeping
 from .opening import Opening
-from .requests import PAGE, Change, Edit, NewRow, Where, Write
+from .requests import PAGE, SPAN, Change, Edit, NewRow, Where, Write
+from .stamps import Clock
 from .tables import Table, Value
 from .told import Told
 
@@ -44,7 +45,7 @@ class Session:
 
     def __init__(self, tables: Iterable[Table | Mapping[str, Any]], *, keep: int | None = None,
                  records: int | None = None, log: str | os.PathLike[str] | None = None,
-                 reopen: bool = False, keep_slots: int | None = None,
+                 reopen: bool = False, keep_slots: int | None = None, clock: Clock | None = None,
                  command: Sequence[str] = ("timetravel", "session"), timeout: float | None = None) -> None:
         """A session that starts the program once it is opened, with the same parameters as
         `timetravel.Session`. Raises `ValueError` or `TypeError` for what a line can't carry."""
@@ -54,19 +55,19 @@ class Session:
         def make(is_again: bool, told: Told) -> Program:
             return Program(program.of_log(command, log, is_again), log is not None, told)
 
-        self._prepare(make, Opening(tables, keep, records), reopen, keep_slots, timeout)
+        self._prepare(make, Opening(tables, keep, records, clock), reopen, keep_slots, timeout)
 
     @classmethod
     def connect(cls, socket: str | os.PathLike[str], tables: Iterable[Table | Mapping[str, Any]], *,
                 keep: int | None = None, records: int | None = None, reopen: bool = False,
                 reads: Literal["log", "replica"] | None = None, keep_slots: int | None = None,
-                timeout: float | None = None) -> Session:
+                clock: Clock | None = None, timeout: float | None = None) -> Session:
         """A session that connects to the socket with this path once it is opened, with the same
         parameters as `timetravel.Session.connect`. Raises `ValueError` or `TypeError` for what a line
         can't carry."""
         session = cls.__new__(cls)
-        session._prepare(lambda _, told: Connection(socket, told), Opening(tables, keep, records, reads),
-                         reopen, keep_slots, timeout)
+        opening = Opening(tables, keep, records, clock, reads)
+        session._prepare(lambda _, told: Connection(socket, told), opening, reopen, keep_slots, timeout)
         return session
 
     def _prepare(self, make: Callable[[bool, Told], Program | Connection], opening: Opening,
@@ -119,32 +120,35 @@ class Session:
     # Writes
 
     async def insert(self, table: str, row: NewRow, *, worker: int | None = None,
-                     if_time: int | None = None, timeout: float | None = None) -> Written:
+                     if_time: int | None = None, stamp: int | None = None,
+                     timeout: float | None = None) -> Written:
         """Inserts a row: its values in the columns' order, or a dict of all of them by their columns'
         names. Where the table has its key, the reply is "duplicate".
 
         Raises `ValueError` where a column is missing or unknown, `Full`, and what any request does.
         """
-        return await self._ask(requests.insert(table, row), answers.written, worker, if_time, timeout)
+        return await self._ask(requests.insert(table, row), answers.written, worker, if_time, timeout, stamp)
 
     @overload
     async def update(self, table: str, change: Iterable[Change], where: Where, *,
-                     worker: int | None = None, if_time: int | None = None,
+                     worker: int | None = None, if_time: int | None = None, stamp: int | None = None,
                      timeout: float | None = None) -> Written: ...
 
     @overload
     async def update(self, table: str, where: Where, /, *, set: Mapping[str, Value] = ...,
                      add: Mapping[str, int] = ..., worker: int | None = None,
-                     if_time: int | None = None, timeout: float | None = None) -> Written: ...
+                     if_time: int | None = None, stamp: int | None = None,
+                     timeout: float | None = None) -> Written: ...
 
     @overload
     async def update(self, table: str, *, where: Where, set: Mapping[str, Value] = ...,
                      add: Mapping[str, int] = ..., worker: int | None = None,
-                     if_time: int | None = None, timeout: float | None = None) -> Written: ...
+                     if_time: int | None = None, stamp: int | None = None,
+                     timeout: float | None = None) -> Written: ...
 
     async def update(self, table: str, change: Any = None, where: Any = None, *,
                      set: Mapping[str, Value] | None = None, add: Mapping[str, int] | None = None,
-                     worker: int | None = None, if_time: int | None = None,
+                     worker: int | None = None, if_time: int | None = None, stamp: int | None = None,
                      timeout: float | None = None) -> Written:
         """Changes the rows that match: sets columns to values, adds numbers to columns. `where` is empty
         for every row.
@@ -153,18 +157,21 @@ class Session:
         """
         make: Callable[..., Write] = requests.update    # whose overloads are those of this method
         request = make(table, change, where, set=set, add=add)
-        return await self._ask(request, answers.written, worker, if_time, timeout)
+        return await self._ask(request, answers.written, worker, if_time, timeout, stamp)
 
     async def delete(self, table: str, where: Where, *, worker: int | None = None,
-                     if_time: int | None = None, timeout: float | None = None) -> Written:
+                     if_time: int | None = None, stamp: int | None = None,
+                     timeout: float | None = None) -> Written:
         """Deletes the rows that match. `where` is empty for every row.
 
         Raises `Full`, and what any request does.
         """
-        return await self._ask(requests.delete(table, where), answers.written, worker, if_time, timeout)
+        request = requests.delete(table, where)
+        return await self._ask(request, answers.written, worker, if_time, timeout, stamp)
 
     async def do(self, writes: Iterable[Write], *, whole: bool = False, worker: int | None = None,
-                 if_time: int | None = None, timeout: float | None = None) -> Written:
+                 if_time: int | None = None, stamp: int | None = None,
+                 timeout: float | None = None) -> Written:
         """Carries out up to 16 writes in order, as one slot at one time.
 
         Where they are `whole`, either each of them has an effect, or nothing is written; `done` of what
@@ -173,7 +180,8 @@ class Session:
 
         Raises `Full`, and what any request does.
         """
-        return await self._ask(requests.do(writes, whole=whole), answers.written, worker, if_time, timeout)
+        request = requests.do(writes, whole=whole)
+        return await self._ask(request, answers.written, worker, if_time, timeout, stamp)
 
     # Reads
 
@@ -234,21 +242,9 @@ class Session:
     async def repair(self, edits: Iterable[Edit], *, dry: bool = False, step: int | None = None,
                      progress: Callable[[Progress], object] | None = None, worker: int | None = None,
                      timeout: float | None = None) -> Switched | Trial:
-        """A whole repair: begins it, does `step` slots at a time (100, or 1,000 of a dry run) until none is
-        left, and makes the repaired data the current ones. Other requests are answered between the steps.
-        Where the beginning is refused, nothing else is sent. What it asks is meant for a repair of this
-        `worker` alone, so give each client that repairs one of its own.
-
-        A `dry` run returns what the repair has come to, and aborts it: the current data stay. It reads that
-        in pages, so it tells the same as `would`, and no other request waits long for it. In the history
-        and in the log it is a repair that was given up.
-
-        `progress` is called after each step, and awaited where it returns something to await. Where it
-        raises something, or a request fails, or the task is cancelled, the repair is aborted, and that is
-        raised. `timeout` is for each request.
-
-        Raises what `begin`, `step` and `finish` do. After a `NoAnswer` of the beginning or of the end the
-        repair may be under way, or done: `status` tells.
+        """A whole repair, or a `dry` run, as `repair` of `timetravel.Session`; also in what it raises. What
+        `progress` returns is awaited where it is something to await. A task that is cancelled aborts the
+        repair.
         """
         trial: Trial | None = None
         slots = step if step is not None else 1000 if dry else 100
@@ -361,15 +357,36 @@ class Session:
         return await self._ask({"status": True}, answers.status, worker, if_time, timeout)
 
     async def slots(self, first: int, last: int, *, of: int | None = None,
-                    row: tuple[str, int] | None = None, worker: int | None = None,
-                    if_time: int | None = None, timeout: float | None = None) -> Slots:
-        """The slots from `first` to `last`: those of the worker `of`, and those that changed a row,
-        given as its table and its key.
+                    row: tuple[str, int] | None = None, stamps: tuple[int, int] | None = None,
+                    worker: int | None = None, if_time: int | None = None,
+                    timeout: float | None = None) -> Slots:
+        """The slots from `first` to `last`, at most 10,000 of them. Of these, those of the worker `of`, those
+        that changed a row, given as its table and its key, and those with a stamp from the first of `stamps`
+        to the second.
 
         Raises what any request does.
         """
-        request = requests.slots(first, last, of, row)
+        request = requests.slots(first, last, of, row, stamps)
         return await self._ask(request, self._opening.slots, worker, if_time, timeout)
+
+    async def find(self, *, of: int | None = None, row: tuple[str, int] | None = None,
+                   stamps: tuple[int, int] | None = None, worker: int | None = None,
+                   timeout: float | None = None) -> AsyncIterator[Slot]:
+        """The slots that aren't forgotten, up to the time at which the first one is asked for, for `async for`:
+        those of the worker `of`, those that changed a row, and those with a stamp from one to another, as for
+        `slots`.
+
+        It asks for 10,000 slots at a time, and other requests are answered in between; so where a repair
+        ends meanwhile, the slots behind that are told as it has left them. `timeout` is for each request.
+
+        Raises what any request does.
+        """
+        status = await self.status(worker=worker, timeout=timeout)
+        for first in range(status.horizon + 1, status.time + 1, SPAN):
+            last = min(first + SPAN - 1, status.time)
+            page = await self.slots(first, last, of=of, row=row, stamps=stamps, worker=worker, timeout=timeout)
+            for slot in page.slots:
+                yield slot
 
     async def changes(self, which: Literal["now", "next"] = "now", *, of: int | None = None,
                       only: Literal["writes", "reads"] | None = None, after: int | None = None,
@@ -462,7 +479,7 @@ class Session:
 
     @overload
     async def send(self, request: Write | requests.DoRequest, *, worker: int | None = None,
-                   if_time: int | None = None, timeout: float | None = None
+                   if_time: int | None = None, stamp: int | None = None, timeout: float | None = None
                    ) -> asyncio.Future[Written]: ...
 
     @overload
@@ -522,12 +539,13 @@ class Session:
 
     @overload
     async def send(self, request: Mapping[str, object], *, worker: int | None = None,
-                   if_time: int | None = None, timeout: float | None = None
+                   if_time: int | None = None, stamp: int | None = None, timeout: float | None = None
                    ) -> asyncio.Future[Any]: ...
 
     async def send(self, request: Any, *, worker: int | None = None, if_time: int | None = None,
-                   timeout: float | None = None) -> asyncio.Future[Any]:
-        """Sends a request, and returns a future of what the method of its kind returns or raises.
+                   stamp: int | None = None, timeout: float | None = None) -> asyncio.Future[Any]:
+        """Sends a request, and returns a future of what the method of its kind returns or raises. The stamp
+        is for a write alone.
 
         Many may be sent before the first answer is there. This waits only where the pipe is full, for
         the other side to read on, at most for the `timeout`.
@@ -535,14 +553,14 @@ class Session:
         Raises `ValueError` or `TypeError`, `NoAnswer`, `Ended`, `Closed` and `Forked` as any request
         does; the future raises the rest.
         """
-        line = self._opening.request(request, worker, if_time)
+        line = self._opening.request(request, worker, if_time, stamp)
         future = await self._within(timeout, self._put(line, self._opening.decode(request)))
         self._forget_old()
         return future
 
     async def _ask(self, request: Mapping[str, Any], decode: Decode[AnswerType], worker: int | None,
-                   if_time: int | None, timeout: float | None) -> AnswerType:
-        line = self._opening.request(request, worker, if_time)
+                   if_time: int | None, timeout: float | None, stamp: int | None = None) -> AnswerType:
+        line = self._opening.request(request, worker, if_time, stamp)
         answer = await self._within(timeout, self._exchange(line, decode))
         self._forget_old()
         return answer

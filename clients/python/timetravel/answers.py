@@ -112,7 +112,7 @@ class Slot:
     `asked` has the writes that were asked for, where a repair has cancelled or replaced them. Where the
     session has forgotten since, `asked` is None, and of a cancelled slot `do` and `replies` are empty.
     `whole` and `asked_whole` tell whether `do` and `asked` are whole; two actions may differ in this
-    alone."""
+    alone. `stamp` is the one that the write was sent with, and None where it had none."""
     slot: int
     worker: int
     do: list[Write] | None
@@ -120,6 +120,7 @@ class Slot:
     asked: list[Write] | None = None
     whole: bool = False
     asked_whole: bool = False
+    stamp: int | None = None
 
 
 @dataclass(frozen=True)
@@ -326,7 +327,8 @@ def slots(rows: Mapping[str, type[Row]], found: Members) -> Slots:
 def _slot(rows: Mapping[str, type[Row]], found: Members) -> Slot:
     replies = None if found["replies"] is None else _replies(found["replies"])
     return Slot(found["slot"], found["worker"], _writes(rows, found["do"]), replies,
-                _writes(rows, found.get("asked")), found.get("whole", False), found.get("asked_whole", False))
+                _writes(rows, found.get("asked")), found.get("whole", False), found.get("asked_whole", False),
+                found.get("stamp"))
 
 
 def _writes(rows: Mapping[str, type[Row]], found: list[Any] | None) -> list[Write] | None:

@@ -9,17 +9,19 @@ from typing import Any
 
 from . import answers, requests
 from .answers import Changes, Decode, Differences, Previewed, Selected, Slots, Trial
+from .stamps import Clock
 from .tables import Row, Table, in_order, row_of
 
 
 VERSION = 4    # of the lines that are sent
+_WRITES = "insert", "update", "delete", "do"
 
 
 class Opening:
     """The line that opens a session, the lines of its requests, and how their answers are read."""
 
     def __init__(self, tables: Iterable[Table | Mapping[str, Any]], keep: int | None,
-                 records: int | None, reads: str | None = None) -> None:
+                 records: int | None, clock: Clock | None, reads: str | None = None) -> None:
         declared = [asdict(table) if isinstance(table, Table) else dict(table) for table in tables]
         members: dict[str, object] = {"version": VERSION, "tables": declared}
         if keep is not None:
@@ -28,6 +30,7 @@ class Opening:
             members["records"] = records
         self.line = requests.line(members)
         self.reads = None if reads is None else requests.line({"read": reads})    # a line before it
+        self._clock = clock    # of the writes that aren't given a stamp
         self._beginners: set[object] = set()    # the workers who have begun a repair here
         self._rows: dict[str, type[Row]] = {}
         self._selected: dict[str, Decode[Selected]] = {}
@@ -52,10 +55,13 @@ class Opening:
         self._selected[name] = partial(answers.selected, row)
         self._previewed[name] = partial(answers.previewed, row)
 
-    def request(self, members: Mapping[str, Any], worker: int | None, if_time: int | None) -> bytes:
-        """A request as a line. Raises `ValueError` or `TypeError` for what a line can't carry.
+    def request(self, members: Mapping[str, Any], worker: int | None, if_time: int | None,
+                stamp: int | None = None) -> bytes:
+        """A request as a line. Raises `ValueError` or `TypeError` for what a line can't carry, and what the
+        clock raises.
 
-        What a worker who has begun a repair here asks of one is meant for this worker's.
+        What a worker who has begun a repair here asks of one is meant for this worker's. A write without a
+        stamp gets one of the clock, where there is one.
         """
         if "insert" in members:
             if type(members.get("row")) is not list:
@@ -71,6 +77,11 @@ class Opening:
             worker_of_it = _worker(members, worker)
             if worker_of_it in self._beginners:
                 members = {**members, "of": worker_of_it}
+        if "stamp" not in members:
+            if stamp is None and self._clock is not None and any(kind in members for kind in _WRITES):
+                stamp = self._clock()
+            if stamp is not None:
+                members = {**members, "stamp": stamp}
         if if_time is not None:
             members = {"if": if_time, **members}
         if worker is not None:

@@ -12,6 +12,7 @@ from .tables import Row, Value
 
 
 PAGE = 1000    # entries of a list that is asked for in pages, if it isn't said otherwise
+SPAN = 10_000    # slots that one request may ask for
 
 
 @dataclass(frozen=True)
@@ -125,6 +126,7 @@ class SlotsRequest(_SlotsRequest, total=False):
     """Slots, with what was written in them."""
     of: int
     row: list[Value]    # a table and a key
+    stamps: list[int]    # the least and the greatest stamp
 
 
 class _ChangesRequest(TypedDict):
@@ -351,13 +353,16 @@ def abort(of: int | None) -> AbortRequest:
     return {"abort": True} if of is None else {"abort": True, "of": of}
 
 
-def slots(first: int, last: int, of: int | None, row: tuple[str, int] | None) -> SlotsRequest:
-    """The slots from `first` to `last`, of a worker, of a row."""
+def slots(first: int, last: int, of: int | None, row: tuple[str, int] | None,
+          stamps: tuple[int, int] | None) -> SlotsRequest:
+    """The slots from `first` to `last`, of a worker, of a row, with stamps from one to another."""
     request: SlotsRequest = {"slots": [first, last]}
     if of is not None:
         request["of"] = of
     if row is not None:
         request["row"] = list(row)
+    if stamps is not None:
+        request["stamps"] = list(stamps)
     return request
 
 

@@ -11,15 +11,16 @@ from typing import Any, Literal, TypeVar, overload
 
 from . import answers, requests
 from .answers import (
-    Causes, Changes, Decode, Differences, Previewed, Progress, Selected, Slots, Status, Stepped, Switched, Tables,
-    Trial, Written)
+    Causes, Changes, Decode, Differences, Previewed, Progress, Selected, Slot, Slots, Status, Stepped, Switched,
+    Tables, Trial, Written)
 from .channel import Channel
 from .connection import Connection
 from .errors import Closed, Error, Forked, NoAnswer, NotRepairing, Refused, RepairOfAnother
 from .keeping import Keeping
 from .opening import Opening
 from .program import Program, of_log
-from .requests import PAGE, Change, Edit, NewRow, Where, Write
+from .requests import PAGE, SPAN, Change, Edit, NewRow, Where, Write
+from .stamps import Clock
 from .tables import Table, Value
 from .told import Told
 from .waiting import Deadline, SentFuture, Wait, Waiting, seconds_left
@@ -34,11 +35,14 @@ class Session:
     Each method sends a request and waits for its answer. Every request takes the `worker` in whose name
     it is made (1 where it isn't given); `if_time`: where this isn't the current time, the request is
     refused as `Moved`; and `timeout`, the seconds that it may take, in place of the session's own
-    (`math.inf` for any time). `send` sends a request without waiting.
+    (`math.inf` for any time). A write also takes a `stamp`, a count that `slots` tells and finds it by;
+    without one it gets that of the session's `clock`, where there is one. `send` sends a request without
+    waiting.
 
     Any request raises what isn't said of it again:
 
-    - `ValueError` or `TypeError` for what a line can't carry to the database. It isn't sent.
+    - `ValueError` or `TypeError` for what a line can't carry to the database. It isn't sent. Nor is a write
+      for which the `clock` raises something, which is raised.
     - `Fault` where the grammar or the tables don't allow it, and `OutOfMemory`. It has changed nothing.
     - `Moved`, with `if_time`. It has changed nothing.
     - `NoAnswer` where the answer doesn't come in time. The request may still be carried out.
@@ -50,7 +54,7 @@ class Session:
 
     def __init__(self, tables: Iterable[Table | Mapping[str, Any]], *, keep: int | None = None,
                  records: int | None = None, log: str | os.PathLike[str] | None = None,
-                 reopen: bool = False, keep_slots: int | None = None,
+                 reopen: bool = False, keep_slots: int | None = None, clock: Clock | None = None,
                  command: Sequence[str] = ("timetravel", "session"), timeout: float | None = None) -> None:
         """Starts the program and opens the database.
 
@@ -72,6 +76,9 @@ class Session:
         during a repair or on a full disk, it is sent again some slots later. Of several clients of one
         session, one is given `keep_slots`.
 
+        `clock` gives the stamps of writes, such as `milliseconds`. It is called once for each write that
+        has no `stamp`, before that is sent, by the thread that sends it.
+
         Raises `NotStarted`, `Lost` where the program ends again, `AnotherOpening`, `Fault`,
         `OutOfMemory`, `NoAnswer`, and `ValueError` or `TypeError` for what a line can't carry.
         """
@@ -81,27 +88,27 @@ class Session:
         def start(deadline: Deadline | None, is_again: bool, told: Told) -> Program:
             return Program(of_log(command, log, is_again), log is not None, told)
 
-        self._open(start, Opening(tables, keep, records), reopen, keep_slots, timeout)
+        self._open(start, Opening(tables, keep, records, clock), reopen, keep_slots, timeout)
 
     @classmethod
     def connect(cls, socket: str | os.PathLike[str], tables: Iterable[Table | Mapping[str, Any]], *,
                 keep: int | None = None, records: int | None = None, reopen: bool = False,
                 reads: Literal["log", "replica"] | None = None, keep_slots: int | None = None,
-                timeout: float | None = None) -> Session:
+                clock: Clock | None = None, timeout: float | None = None) -> Session:
         """Connects to the Unix socket with this path, and opens the session there, or joins in: it has
         to be of the same tables and `keep`, and `opened` tells what is there.
 
         With `reopen` the next request connects again after the connection has ended. Whoever waits for
-        an answer then gets `Disconnected` all the same. `timeout` and `keep_slots` are as for a program.
-        `close` ends this connection alone. `reads` is for a replica alone: whether reads go through the
-        log, as they do where it isn't given, or are answered by this replica as it is.
+        an answer then gets `Disconnected` all the same. `timeout`, `keep_slots` and `clock` are as for a
+        program. `close` ends this connection alone. `reads` is for a replica alone: whether reads go through
+        the log, as they do where it isn't given, or are answered by this replica as it is.
 
         Raises `NotConnected`, `Disconnected`, `AnotherOpening`, `Fault`, `OutOfMemory`, `NoAnswer`, and
         `ValueError` or `TypeError` for what a line can't carry.
         """
         session = cls.__new__(cls)
         session._open(lambda deadline, _, told: Connection(socket, deadline, told),
-                      Opening(tables, keep, records, reads), reopen, keep_slots, timeout)
+                      Opening(tables, keep, records, clock, reads), reopen, keep_slots, timeout)
         return session
 
     def _open(self, make: Callable[[Deadline | None, bool, Told], Channel], opening: Opening, reopens: bool,
@@ -168,31 +175,32 @@ class Session:
     # Writes
 
     def insert(self, table: str, row: NewRow, *, worker: int | None = None, if_time: int | None = None,
-               timeout: float | None = None) -> Written:
+               stamp: int | None = None, timeout: float | None = None) -> Written:
         """Inserts a row: its values in the columns' order, or a dict of all of them by their columns'
         names. Where the table has its key, the reply is "duplicate".
 
         Raises `ValueError` where a column is missing or unknown, `Full`, and what any request does.
         """
-        return self._ask(requests.insert(table, row), answers.written, worker, if_time, timeout)
+        return self._ask(requests.insert(table, row), answers.written, worker, if_time, timeout, stamp)
 
     @overload
     def update(self, table: str, change: Iterable[Change], where: Where, *, worker: int | None = None,
-               if_time: int | None = None, timeout: float | None = None) -> Written: ...
+               if_time: int | None = None, stamp: int | None = None,
+               timeout: float | None = None) -> Written: ...
 
     @overload
     def update(self, table: str, where: Where, /, *, set: Mapping[str, Value] = ...,
                add: Mapping[str, int] = ..., worker: int | None = None, if_time: int | None = None,
-               timeout: float | None = None) -> Written: ...
+               stamp: int | None = None, timeout: float | None = None) -> Written: ...
 
     @overload
     def update(self, table: str, *, where: Where, set: Mapping[str, Value] = ...,
                add: Mapping[str, int] = ..., worker: int | None = None, if_time: int | None = None,
-               timeout: float | None = None) -> Written: ...
+               stamp: int | None = None, timeout: float | None = None) -> Written: ...
 
     def update(self, table: str, change: Any = None, where: Any = None, *,
                set: Mapping[str, Value] | None = None, add: Mapping[str, int] | None = None,
-               worker: int | None = None, if_time: int | None = None,
+               worker: int | None = None, if_time: int | None = None, stamp: int | None = None,
                timeout: float | None = None) -> Written:
         """Changes the rows that match: sets columns to values, adds numbers to columns. `where` is empty
         for every row.
@@ -205,18 +213,18 @@ class Session:
         """
         make: Callable[..., Write] = requests.update    # whose overloads are those of this method
         request = make(table, change, where, set=set, add=add)
-        return self._ask(request, answers.written, worker, if_time, timeout)
+        return self._ask(request, answers.written, worker, if_time, timeout, stamp)
 
     def delete(self, table: str, where: Where, *, worker: int | None = None, if_time: int | None = None,
-               timeout: float | None = None) -> Written:
+               stamp: int | None = None, timeout: float | None = None) -> Written:
         """Deletes the rows that match. `where` is empty for every row.
 
         Raises `Full`, and what any request does.
         """
-        return self._ask(requests.delete(table, where), answers.written, worker, if_time, timeout)
+        return self._ask(requests.delete(table, where), answers.written, worker, if_time, timeout, stamp)
 
     def do(self, writes: Iterable[Write], *, whole: bool = False, worker: int | None = None,
-           if_time: int | None = None, timeout: float | None = None) -> Written:
+           if_time: int | None = None, stamp: int | None = None, timeout: float | None = None) -> Written:
         """Carries out up to 16 writes in order, as one slot at one time.
 
         Where they are `whole`, either each of them has an effect, or nothing is written; `done` of what
@@ -230,7 +238,8 @@ class Session:
 
         Raises `Full`, and what any request does.
         """
-        return self._ask(requests.do(writes, whole=whole), answers.written, worker, if_time, timeout)
+        request = requests.do(writes, whole=whole)
+        return self._ask(request, answers.written, worker, if_time, timeout, stamp)
 
     # Reads
 
@@ -419,15 +428,37 @@ class Session:
         return self._ask({"status": True}, answers.status, worker, if_time, timeout)
 
     def slots(self, first: int, last: int, *, of: int | None = None,
-              row: tuple[str, int] | None = None, worker: int | None = None,
-              if_time: int | None = None, timeout: float | None = None) -> Slots:
-        """The slots from `first` to `last`: those of the worker `of`, and those that changed a row,
-        given as its table and its key.
+              row: tuple[str, int] | None = None, stamps: tuple[int, int] | None = None,
+              worker: int | None = None, if_time: int | None = None,
+              timeout: float | None = None) -> Slots:
+        """The slots from `first` to `last`, at most 10,000 of them. Of these, those of the worker `of`, those
+        that changed a row, given as its table and its key, and those with a stamp from the first of `stamps`
+        to the second.
 
         Raises what any request does.
         """
-        request = requests.slots(first, last, of, row)
+        request = requests.slots(first, last, of, row, stamps)
         return self._ask(request, self._opening.slots, worker, if_time, timeout)
+
+    def find(self, *, of: int | None = None, row: tuple[str, int] | None = None,
+             stamps: tuple[int, int] | None = None, worker: int | None = None,
+             timeout: float | None = None) -> Iterator[Slot]:
+        """The slots that aren't forgotten, up to the time at which the first one is asked for: those of the
+        worker `of`, those that changed a row, and those with a stamp from one to another, as for `slots`.
+
+            for slot in session.find(of=3, row=("acct", 1), stamps=(nine, ten)):
+                print(slot.slot, slot.stamp, slot.do)
+
+        It asks for 10,000 slots at a time, and other requests are answered in between; so where a repair
+        ends meanwhile, the slots behind that are told as it has left them. `timeout` is for each request.
+
+        Raises what any request does.
+        """
+        status = self.status(worker=worker, timeout=timeout)
+        for first in range(status.horizon + 1, status.time + 1, SPAN):
+            last = min(first + SPAN - 1, status.time)
+            page = self.slots(first, last, of=of, row=row, stamps=stamps, worker=worker, timeout=timeout)
+            yield from page.slots
 
     def changes(self, which: Literal["now", "next"] = "now", *, of: int | None = None,
                 only: Literal["writes", "reads"] | None = None, after: int | None = None,
@@ -517,7 +548,8 @@ class Session:
 
     @overload
     def send(self, request: Write | requests.DoRequest, *, worker: int | None = None,
-             if_time: int | None = None, timeout: float | None = None) -> Future[Written]: ...
+             if_time: int | None = None, stamp: int | None = None,
+             timeout: float | None = None) -> Future[Written]: ...
 
     @overload
     def send(self, request: requests.SelectRequest, *, worker: int | None = None,
@@ -566,11 +598,13 @@ class Session:
 
     @overload
     def send(self, request: Mapping[str, object], *, worker: int | None = None,
-             if_time: int | None = None, timeout: float | None = None) -> Future[Any]: ...
+             if_time: int | None = None, stamp: int | None = None,
+             timeout: float | None = None) -> Future[Any]: ...
 
     def send(self, request: Any, *, worker: int | None = None, if_time: int | None = None,
-             timeout: float | None = None) -> Future[Any]:
-        """Sends a request, and returns a future of what the method of its kind returns or raises.
+             stamp: int | None = None, timeout: float | None = None) -> Future[Any]:
+        """Sends a request, and returns a future of what the method of its kind returns or raises. The stamp
+        is for a write alone.
 
         Many may be sent before the first answer is there. This waits only where the pipe is full, for
         the other side to read on, at most for the `timeout`. Don't wait for answers in a callback of a
@@ -579,7 +613,7 @@ class Session:
         Raises `ValueError` or `TypeError`, `NoAnswer`, `Ended`, `Closed` and `Forked` as any request
         does; the future raises the rest.
         """
-        line = self._opening.request(request, worker, if_time)
+        line = self._opening.request(request, worker, if_time, stamp)
         future: Future[Any] = SentFuture()
         deadline = self._deadline(timeout)
         self._put(line, self._opening.decode(request), future, deadline)
@@ -588,8 +622,8 @@ class Session:
         return future
 
     def _ask(self, request: Mapping[str, Any], decode: Decode[AnswerType], worker: int | None,
-             if_time: int | None, timeout: float | None) -> AnswerType:
-        line = self._opening.request(request, worker, if_time)
+             if_time: int | None, timeout: float | None, stamp: int | None = None) -> AnswerType:
+        line = self._opening.request(request, worker, if_time, stamp)
         wait: Wait[AnswerType] = Wait()
         deadline = self._deadline(timeout)
         self._put(line, decode, wait, deadline)

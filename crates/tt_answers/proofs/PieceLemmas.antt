@@ -10,23 +10,23 @@ use Rattle.tt_requests.specs.Numbers.{Numbering}
 use Rattle.tt_grammar.specs.JsonText.{Member, number_member, further_item, member_text}
 use Rattle.tt_answers.specs.AnswerText.{horizon_members}
 
--- an object of two numbers, further members that begin with some behind a comma and a value, and more members
-pub slot-pieces : (out one two label_3 three label_4 four more all name_1 number_1 name_2 number_2 comma members name_4 value_4 last further end : List ℕ)
-    → further ≡ comma ++ (members ++ (name_4 ++ (value_4 ++ last))) → one ≡ out ++ (name_1 ++ number_1) → two ≡ one ++ (name_2 ++ number_2) → label_3 ≡ two ++ comma → three ≡ label_3 ++ members
-    → label_4 ≡ three ++ name_4 → four ≡ label_4 ++ value_4 → more ≡ four ++ last → all ≡ more ++ end
+-- an object of two numbers, first members, further members that begin with some behind a comma and a value, and more members
+pub slot-pieces : (out one two stamped label_3 three label_4 four more all name_1 number_1 name_2 number_2 first comma members name_4 value_4 last further end : List ℕ)
+    → further ≡ first ++ (comma ++ (members ++ (name_4 ++ (value_4 ++ last)))) → one ≡ out ++ (name_1 ++ number_1) → two ≡ one ++ (name_2 ++ number_2) → stamped ≡ two ++ first
+    → label_3 ≡ stamped ++ comma → three ≡ label_3 ++ members → label_4 ≡ three ++ name_4 → four ≡ label_4 ++ value_4 → more ≡ four ++ last → all ≡ more ++ end
     → all ≡ out ++ (name_1 ++ ((number_1 ++ (name_2 ++ (number_2 ++ further))) ++ end))
-slot-pieces out one two label_3 three label_4 four more all name_1 number_1 name_2 number_2 comma members name_4 value_4 last further end e p q r s t u v w =
+slot-pieces out one two stamped label_3 three label_4 four more all name_1 number_1 name_2 number_2 first comma members name_4 value_4 last further end e p q h r s t u v w =
     w ∙ ap (λ o. o ++ end) (v ∙ ap (λ o. o ++ last) (u ∙ ap (λ o. o ++ value_4) (t ∙ ap (λ o. o ++ name_4) (s ∙ ap (λ o. o ++ members)
-    (r ∙ ap (λ o. o ++ comma) (q ∙ ap (λ o. o ++ (name_2 ++ number_2)) p))))))
+    (r ∙ ap (λ o. o ++ comma) (h ∙ ap (λ o. o ++ first) (q ∙ ap (λ o. o ++ (name_2 ++ number_2)) p)))))))
     ∙ whole
     ∙ ap (λ f. out ++ (name_1 ++ ((number_1 ++ (name_2 ++ (number_2 ++ f))) ++ end))) (sym e)
   where
-    whole : ((((((((out ++ (name_1 ++ number_1)) ++ (name_2 ++ number_2)) ++ comma) ++ members) ++ name_4) ++ value_4) ++ last) ++ end)
-        ≡ out ++ (name_1 ++ ((number_1 ++ (name_2 ++ (number_2 ++ (comma ++ (members ++ (name_4 ++ (value_4 ++ last))))))) ++ end))
+    whole : (((((((((out ++ (name_1 ++ number_1)) ++ (name_2 ++ number_2)) ++ first) ++ comma) ++ members) ++ name_4) ++ value_4) ++ last) ++ end)
+        ≡ out ++ (name_1 ++ ((number_1 ++ (name_2 ++ (number_2 ++ (first ++ (comma ++ (members ++ (name_4 ++ (value_4 ++ last)))))))) ++ end))
     whole = simp append_assoc
 
 -- members behind others
-further-append : (first others : List Member)
+pub further-append : (first others : List Member)
     → flat_map further_item (map member_text (first ++ others)) ≡ flat_map further_item (map member_text first) ++ flat_map further_item (map member_text others)
 further-append first others = ap (flat_map further_item) (map-append member_text first others) ∙ flat_map-append further_item (map member_text first) (map member_text others)
 
@@ -126,15 +126,17 @@ three-labelled out label_1 one label_2 two label_3 all name_1 value_1 name_2 val
     u ∙ ap (λ o. o ++ value_3) (t ∙ ap (λ o. o ++ name_3) (s ∙ ap (λ o. o ++ value_2) (r ∙ ap (λ o. o ++ name_2) (q ∙ ap (λ o. o ++ value_1) p))))
     ∙ simp (append_assoc, append-nil)
 
--- the line of a call: its number, further members, and the end
-pub call-pieces : (out first second third all label number comma members further close feed : List ℕ) → further ≡ comma ++ members → first ≡ out ++ (label ++ number)
-    → second ≡ first ++ comma → third ≡ second ++ members → all ≡ third ++ (close ++ feed) → all ≡ out ++ (label ++ (((number ++ further) ++ close) ++ feed))
-call-pieces out first second third all label number comma members further close feed e p q r s =
-    s ∙ ap (λ o. o ++ (close ++ feed)) (r ∙ ap (λ o. o ++ members) (q ∙ ap (λ o. o ++ comma) p))
+-- the line of a call: its number, first members, further ones, and the end
+pub call-pieces : (out one two three four all label number first comma members further close feed : List ℕ) → further ≡ first ++ (comma ++ members)
+    → one ≡ out ++ (label ++ number) → two ≡ one ++ first → three ≡ two ++ comma → four ≡ three ++ members → all ≡ four ++ (close ++ feed)
+    → all ≡ out ++ (label ++ (((number ++ further) ++ close) ++ feed))
+call-pieces out one two three four all label number first comma members further close feed e p q r s t =
+    t ∙ ap (λ o. o ++ (close ++ feed)) (s ∙ ap (λ o. o ++ members) (r ∙ ap (λ o. o ++ comma) (q ∙ ap (λ o. o ++ first) p)))
     ∙ whole
     ∙ ap (λ f. out ++ (label ++ (((number ++ f) ++ close) ++ feed))) (sym e)
   where
-    whole : (((out ++ (label ++ number)) ++ comma) ++ members) ++ (close ++ feed) ≡ out ++ (label ++ (((number ++ (comma ++ members)) ++ close) ++ feed))
+    whole : ((((out ++ (label ++ number)) ++ first) ++ comma) ++ members) ++ (close ++ feed)
+        ≡ out ++ (label ++ (((number ++ (first ++ (comma ++ members))) ++ close) ++ feed))
     whole = simp append_assoc
 
 -- the line of an opening: its members, and the end
@@ -165,8 +167,20 @@ pub number-members-object : (out first second third all label number comma membe
 number-members-object out first second third all label number comma members end p q r s =
     s ∙ ap (λ o. o ++ end) (r ∙ ap (λ o. o ++ members) (q ∙ ap (λ o. o ++ comma) p)) ∙ simp append_assoc
 
+-- an object of a number, and of further members in two parts
+pub number-parts-object : (out one two three four all label number comma members last further end : List ℕ) → further ≡ comma ++ (members ++ last)
+    → one ≡ out ++ (label ++ number) → two ≡ one ++ comma → three ≡ two ++ members → four ≡ three ++ last → all ≡ four ++ end
+    → all ≡ out ++ (label ++ ((number ++ further) ++ end))
+number-parts-object out one two three four all label number comma members last further end e p q r s t =
+    t ∙ ap (λ o. o ++ end) (s ∙ ap (λ o. o ++ last) (r ∙ ap (λ o. o ++ members) (q ∙ ap (λ o. o ++ comma) p)))
+    ∙ whole
+    ∙ ap (λ f. out ++ (label ++ ((number ++ f) ++ end))) (sym e)
+  where
+    whole : ((((out ++ (label ++ number)) ++ comma) ++ members) ++ last) ++ end ≡ out ++ (label ++ ((number ++ (comma ++ (members ++ last))) ++ end))
+    whole = simp append_assoc
+
 -- two numbers, and more members
 pub trial-pieces : (out one all name_1 number_1 name_2 number_2 rest : List ℕ)
-    → one ≡ out ++ (name_1 ++ (number_1 ++ (name_2 ++ number_2))) → all ≡ one ++ rest
+    → one ≡ out ++ (name_1 ++ (number_1 ++ (name_2 ++ (number_2 ++ [])))) → all ≡ one ++ rest
     → all ≡ out ++ (name_1 ++ (number_1 ++ (name_2 ++ (number_2 ++ rest))))
-trial-pieces out one all name_1 number_1 name_2 number_2 rest p q = q ∙ ap (λ o. o ++ rest) p ∙ simp append_assoc
+trial-pieces out one all name_1 number_1 name_2 number_2 rest p q = q ∙ ap (λ o. o ++ rest) p ∙ simp (append_assoc, append-nil)

@@ -93,14 +93,20 @@ abbrev pub asked_members : Tables → Option Action → List Member
 asked_members tables None = []
 asked_members tables (Some action) = named_action_members (codes "asked") (codes "asked_whole") tables action
 
--- a slot: its number, its worker, its action and its replies, which are null where it is cancelled, and the action that was asked for
+-- the stamp, if there is one
+abbrev pub stamp_members : Option ℕ → List Member
+stamp_members None = []
+stamp_members (Some stamp) = number_member (codes "stamp") stamp ∷ []
+
+-- a slot: its number, its worker, its stamp, its action and its replies, which are null where it is cancelled, and the action that was asked for
 abbrev pub slot_members : Tables → Numbering → SlotEntry → List Member
 slot_members tables numbering entry =
     time_member numbering (codes "slot") entry.number
     ∷ number_member (codes "worker") entry.worker
-    ∷ (action_members_or_null tables entry.slot.action
+    ∷ (stamp_members entry.stamp
+    ++ (action_members_or_null tables entry.slot.action
     ++ (codes "replies", text_or_null (option_map replies_text entry.slot.replies))
-    ∷ asked_members tables entry.asked)
+    ∷ asked_members tables entry.asked))
 
 -- a slot, as an object
 abbrev pub slot_text : Tables → Numbering → SlotEntry → List ℕ
@@ -204,10 +210,14 @@ outcome_members tables numbering redone changed diff =
     ∷ (codes "diff", array_text (map (diff_text tables) diff))
     ∷ []
 
--- how many slots there are, how many of them a repair would re-execute, and what it would come to
+-- how many slots there are, and how many of them a repair would re-execute
+abbrev pub trial_count_members : Numbering → ℕ → ℕ → List Member
+trial_count_members numbering slots rerun = time_member numbering (codes "slots") slots ∷ number_member (codes "rerun") rerun ∷ []
+
+-- the same, and what the repair would come to
 abbrev pub trial_members : Tables → Numbering → ℕ → ℕ → List CauseEntry → List ChangeEntry → List DiffEntry → List Member
 trial_members tables numbering slots rerun redone changed diff =
-    time_member numbering (codes "slots") slots ∷ number_member (codes "rerun") rerun ∷ outcome_members tables numbering redone changed diff
+    trial_count_members numbering slots rerun ++ outcome_members tables numbering redone changed diff
 
 -- the members of an answer, without its call. The tables are those of the database, whose numbers are told by the numbering
 abbrev pub answer_members : Tables → Numbering → Answer → List Member
@@ -235,6 +245,11 @@ line_text members = object_text members ++ codes "\n"
 abbrev pub opening_text : Numbering → Answer → List ℕ
 opening_text numbering answer = line_text (answer_members [] numbering answer)
 
--- the line of an answer to a call, by its number
+-- the line of an answer to a call, by its number, and by the worker that made it where that is told
+abbrev pub worker_call_text : Tables → Numbering → ℕ → Option ℕ → Answer → List ℕ
+worker_call_text tables numbering call worker answer =
+    line_text (number_member (codes "call") call ∷ (worker_members worker ++ answer_members tables numbering answer))
+
+-- the same in a session, which tells no worker
 abbrev pub call_text : Tables → Numbering → ℕ → Answer → List ℕ
-call_text tables numbering call answer = line_text (number_member (codes "call") call ∷ answer_members tables numbering answer)
+call_text tables numbering call answer = worker_call_text tables numbering call None answer

@@ -70,6 +70,8 @@ pub struct SlotEntry {
     pub number: u64,
     /// The worker that took it.
     pub worker: u32,
+    /// Its stamp, if it has one.
+    pub stamp: Option<u64>,
     /// What it is in the current generation.
     pub slot: Slot,
     /// The action that was asked for, if that is another.

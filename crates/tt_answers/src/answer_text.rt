@@ -5,7 +5,7 @@ ghost use Rattle.std.specs.Option.{option_map};
 ghost use Rattle.std.specs.Fmt.{decimal};
 ghost use Rattle.tt_requests.specs.Numbers.{told_time};
 ghost use Rattle.tt_grammar.specs.JsonText.{further_item, member_text, members_text, text_or_null};
-ghost use Rattle.tt_answers.specs.AnswerText.{progress_members, repair_text, horizon_members, status_members, more_members, page_members, written_members, finished_members, slots_members, changes_members, causes_members, differences_members, outcome_members, trial_members, declared_members, answer_members, opening_text, call_text};
+ghost use Rattle.tt_answers.specs.AnswerText.{progress_members, repair_text, horizon_members, status_members, more_members, page_members, written_members, finished_members, slots_members, changes_members, causes_members, differences_members, outcome_members, trial_count_members, trial_members, declared_members, answer_members, opening_text, worker_call_text};
 
 use crate::answer::{
     Answer, CauseEntry, ChangeEntry, DiffEntry, RepairStatus, RowPage, SlotEntry, Status,
@@ -15,7 +15,7 @@ use crate::diff_text::push_diff;
 use crate::fault_text::{push_fault, push_out_of_memory};
 use crate::refusal_text::push_refusal;
 use crate::reply_text::{push_replies, push_rows};
-use crate::slot_text::{push_changes, push_slots};
+use crate::slot_text::{push_changes, push_slots, push_worker};
 use crate::told_text::{push_told_generation, push_told_time};
 use std::alloc::{AllocError, Global};
 use tt_db::Progress;
@@ -40,20 +40,22 @@ pub fn push_opening(
     Ok(())
 }
 
-/// Pushes the line of an answer to a call, by its number. The catalog is that of the database,
-/// whose numbers are told by the numbering. Where memory runs out, `out` may end with a prefix of
-/// the line.
+/// Pushes the line of an answer to a call, by its number, and by the worker that made it where that
+/// is given. The catalog is that of the database, whose numbers are told by the numbering. Where
+/// memory runs out, `out` may end with a prefix of the line.
 pub fn push_call(
     out: &mut Vec<u8>,
     catalog: &Catalog,
     numbering: Numbering,
     call: u64,
+    worker: Option<u32>,
     answer: &Answer,
 ) -> Result<(), AllocError>
-    ensures { OnOk result (out.new.items
-        ≡ out.old.items ++ call_text catalog.now numbering call answer.now) }
+    ensures { OnOk result (out.new.items ≡ out.old.items
+        ++ worker_call_text catalog.now numbering call worker answer.now) }
 {
     push_labelled(out, b"{\"call\":", call)?;
+    push_worker(out, worker)?;
     out.push(b',')?;
     push_answer(out, catalog, numbering, answer)?;
     out.extend_from_slice(b"}\n")?;
@@ -240,8 +242,8 @@ fn push_more(out: &mut Vec<u8>, more: Option<bool>) -> Result<(), AllocError>
 }
 
 /// Pushes the generation that is now current, how many slots it has, and how many of them were
-/// re-executed.
-fn push_finished(
+/// re-executed, as members.
+pub fn push_finished(
     out: &mut Vec<u8>,
     numbering: Numbering,
     generation: u64,
@@ -335,16 +337,15 @@ fn push_differences_of(
     Ok(())
 }
 
-/// Pushes how many slots there are, and how many of them a repair would re-execute.
-fn push_trial_counts(
+/// Pushes how many slots there are, and how many of them a repair would re-execute, as members.
+pub fn push_trial_counts(
     out: &mut Vec<u8>,
     numbering: Numbering,
     slots: u64,
     rerun: u64,
 ) -> Result<(), AllocError>
-    ensures { OnOk result (out.new.items ≡ out.old.items
-        ++ (codes "\"slots\":" ++ (decimal (told_time numbering slots).number
-        ++ (codes ",\"rerun\":" ++ decimal rerun)))) }
+    ensures { OnOk result (out.new.items
+        ≡ out.old.items ++ members_text (trial_count_members numbering slots rerun)) }
 {
     push_told_time(out, b"\"slots\":", numbering.told_time(slots))?;
     push_labelled(out, b",\"rerun\":", rerun)?;

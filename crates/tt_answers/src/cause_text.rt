@@ -28,7 +28,7 @@ pub(crate) fn push_causes(
         return out.extend_from_slice(b"[]");
     };
     out.push(b'[')?;
-    push_entry(out, catalog, numbering, first)?;
+    push_cause_entry(out, catalog, numbering, first)?;
     push_further_entries(out, catalog, numbering, further)?;
     out.push(b']')?;
     Ok(())
@@ -46,13 +46,13 @@ fn push_further_entries(
 {
     for entry in redone {
         out.push(b',')?;
-        push_entry(out, catalog, numbering, entry)?;
+        push_cause_entry(out, catalog, numbering, entry)?;
     }
     Ok(())
 }
 
 /// Pushes a re-executed slot with its cause.
-fn push_entry(
+pub fn push_cause_entry(
     out: &mut Vec<u8>,
     catalog: &Catalog,
     numbering: Numbering,

@@ -10,6 +10,7 @@ ghost use Rattle.tt_answers.specs.DiffText.{row_or_null, diff_text};
 use crate::answer::DiffEntry;
 use crate::cause_text::push_row_named;
 use std::alloc::AllocError;
+use tt_generations::RowChange;
 use tt_grammar::push_row;
 use tt_values::{Catalog, Row, RowId};
 
@@ -52,24 +53,43 @@ fn push_further_entries(
 fn push_entry(out: &mut Vec<u8>, catalog: &Catalog, entry: &DiffEntry) -> Result<(), AllocError>
     ensures { OnOk result (out.new.items ≡ out.old.items ++ diff_text catalog.now entry.now) }
 {
-    push_row_id(out, catalog, entry)?;
+    push_row_change(out, catalog, entry.table, &entry.change)
+}
+
+/// Pushes a row of a table that differs, as it is before and after. The table goes by its position,
+/// from 0.
+pub fn push_row_change(
+    out: &mut Vec<u8>,
+    catalog: &Catalog,
+    table: u16,
+    change: &RowChange,
+) -> Result<(), AllocError>
+    ensures { OnOk result (out.new.items ≡ out.old.items
+        ++ diff_text catalog.now (record { table = table; change = change.now })) }
+{
+    push_row_id(out, catalog, table, change)?;
     out.extend_from_slice(b",\"before\":")?;
-    push_row_or_null(out, &entry.change.before)?;
+    push_row_or_null(out, &change.before)?;
     out.extend_from_slice(b",\"after\":")?;
-    push_row_or_null(out, &entry.change.after)?;
+    push_row_or_null(out, &change.after)?;
     out.push(b'}')?;
     Ok(())
 }
 
 /// Pushes the table and the key of a row that differs.
-fn push_row_id(out: &mut Vec<u8>, catalog: &Catalog, entry: &DiffEntry) -> Result<(), AllocError>
+fn push_row_id(
+    out: &mut Vec<u8>,
+    catalog: &Catalog,
+    table: u16,
+    change: &RowChange,
+) -> Result<(), AllocError>
     ensures { OnOk result (out.new.items ≡ out.old.items
-        ++ (codes "{\"table\":" ++ (quoted (table_name catalog.now entry.now.table)
-        ++ (codes ",\"key\":" ++ signed_decimal entry.now.change.key)))) }
+        ++ (codes "{\"table\":" ++ (quoted (table_name catalog.now table)
+        ++ (codes ",\"key\":" ++ signed_decimal change.now.key)))) }
 {
     let row = RowId {
-        table: entry.table,
-        key: entry.change.key,
+        table,
+        key: change.key,
     };
     push_row_named(out, b"{\"table\":", catalog, row)
 }

@@ -5,6 +5,7 @@ ghost use Rattle.tt_grammar.specs.ReadBack.{IsStorableAction};
 ghost use Rattle.tt_answers.specs.LogText.{log_opening_line, ground_line, slot_line};
 
 use crate::answer_text::push_declared;
+use crate::slot_text::push_stamp;
 use crate::told_text::{push_told_generation, push_told_time};
 use std::alloc::AllocError;
 use tt_grammar::{push_action, push_labelled};
@@ -48,20 +49,22 @@ pub fn push_ground_line(
     Ok(())
 }
 
-/// Pushes the line of a further slot, by its worker and its action.
+/// Pushes the line of a further slot, by its worker, its action and its stamp.
 pub fn push_slot_line(
     out: &mut Vec<u8>,
     catalog: &Catalog,
     worker: u32,
     action: &Action,
+    stamp: Option<u64>,
 ) -> Result<(), AllocError>
     ensures text { OnOk result (out.new.items
-        ≡ out.old.items ++ slot_line catalog.now worker action.now) }
+        ≡ out.old.items ++ slot_line catalog.now worker action.now stamp) }
     ensures storable { OnOk result (IsStorableAction action.now) }
 {
     push_labelled(out, b"{\"worker\":", u64::from(worker))?;
     out.push(b',')?;
     push_action(out, catalog, action)?;
+    push_stamp(out, stamp)?;
     out.push(b'}')?;
     Ok(())
 }

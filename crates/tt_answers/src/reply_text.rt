@@ -12,7 +12,7 @@ use tt_grammar::{push_decimal, push_row};
 use tt_values::{Items, Reply, Row};
 
 /// Pushes rows as an array.
-pub(crate) fn push_rows(out: &mut Vec<u8>, rows: &[Row]) -> Result<(), AllocError>
+pub fn push_rows(out: &mut Vec<u8>, rows: &[Row]) -> Result<(), AllocError>
     ensures { OnOk result (out.new.items ≡ out.old.items ++ rows_text rows.now) }
 {
     out.push(b'[')?;

@@ -2,7 +2,7 @@
 ghost use Rattle.std.specs.Prelude.{◌≡◌, ◌++◌, map, OnOk};
 ghost use Rattle.std.specs.List.{flat_map};
 ghost use Rattle.tt_grammar.specs.JsonText.{further_item, array_text, member_text};
-ghost use Rattle.tt_answers.specs.AnswerText.{asked_members, slot_text, place_member, after_text, worker_members, reply_change_members, select_members, asked_for_members, change_text};
+ghost use Rattle.tt_answers.specs.AnswerText.{asked_members, stamp_members, slot_text, place_member, after_text, worker_members, reply_change_members, select_members, asked_for_members, change_text};
 
 use crate::answer::{AskedFor, ChangeEntry, Place, SlotEntry};
 use crate::reply_text::{push_replies, push_replies_or_null};
@@ -65,12 +65,24 @@ fn push_slot(
 {
     push_told_time(out, b"{\"slot\":", numbering.told_time(entry.number))?;
     push_labelled(out, b",\"worker\":", u64::from(entry.worker))?;
+    push_stamp(out, entry.stamp)?;
     out.push(b',')?;
     push_action_or_null(out, catalog, &entry.slot.action)?;
     out.extend_from_slice(b",\"replies\":")?;
     push_replies_or_null(out, &entry.slot.replies)?;
     push_asked(out, catalog, &entry.asked)?;
     out.push(b'}')?;
+    Ok(())
+}
+
+/// Pushes a stamp, if there is one, behind a comma.
+pub(crate) fn push_stamp(out: &mut Vec<u8>, stamp: Option<u64>) -> Result<(), AllocError>
+    ensures { OnOk result (out.new.items
+        ≡ out.old.items ++ flat_map further_item (map member_text (stamp_members stamp))) }
+{
+    if let Some(stamp) = stamp {
+        push_labelled(out, b",\"stamp\":", stamp)?;
+    }
     Ok(())
 }
 
@@ -128,7 +140,7 @@ fn push_further_changes(
 }
 
 /// Pushes a changed reply.
-fn push_change(
+pub fn push_change(
     out: &mut Vec<u8>,
     catalog: &Catalog,
     numbering: Numbering,
@@ -147,7 +159,7 @@ fn push_change(
 }
 
 /// Pushes the worker of a call, if that is told.
-fn push_worker(out: &mut Vec<u8>, worker: Option<u32>) -> Result<(), AllocError>
+pub(crate) fn push_worker(out: &mut Vec<u8>, worker: Option<u32>) -> Result<(), AllocError>
     ensures { OnOk result (out.new.items
         ≡ out.old.items ++ flat_map further_item (map member_text (worker_members worker))) }
 {

@@ -6,7 +6,7 @@ use Rattle.clap.specs.declared.error.Error.{Error}
 use Rattle.clap.specs.Words.{Text, FailsBy, kind_of}
 use Rattle.tt_cli.specs.declared.command_line.Cli.{Cli}
 use Rattle.tt_cli.specs.declared.ending.Ending.{Ending}
-use Rattle.tt_cli.specs.CommandLine.{fault_of_words, options_of, IsCommandOf, IsBatchOf, IsRoundsOf, IsClosedOf, IsWhyOf, IsDiffOf, IsDryOf}
+use Rattle.tt_cli.specs.CommandLine.{fault_of_words, options_of, IsCommandOf, IsBatchOf, IsRoundsOf, IsClosedOf, IsWhyOf, IsDiffOf, IsJsonOf, IsDryOf}
 use Rattle.tt_cli.specs.Ending.{IsEndingOfUsage}
 use Rattle.tt_cli.specs.CarryingOut.{EndsBy, IsEndingBy, CarriesOut}
 
@@ -17,6 +17,7 @@ pub carries_out : (words : List Text) (asked : Result Cli Error) (unread left ol
     → IfOk asked (λ cli. IfSome (options_of cli) (λ options. IsClosedOf words options.closed))
     → IfOk asked (λ cli. IfSome (options_of cli) (λ options. IsWhyOf words options.why))
     → IfOk asked (λ cli. IfSome (options_of cli) (λ options. IsDiffOf words options.diff))
+    → IfOk asked (λ cli. IfSome (options_of cli) (λ options. IsJsonOf words options.json))
     → IfOk asked (λ cli. IfSome (options_of cli) (λ options. IsDryOf words options.dry))
     → IfOk asked (λ cli. IfSome (options_of cli) (λ options. IsRoundsOf words options.rounds))
     → IfOk asked (λ cli. EndsBy cli unread left old new ending)
@@ -25,13 +26,13 @@ pub carries_out : (words : List Text) (asked : Result Cli Error) (unread left ol
     → OnErr asked (Keeps old new)
     → IfErr asked (λ error. IsEndingOfUsage (kind_of error) ending)
     → CarriesOut words unread left old new ending
-carries_out words (Ok cli) unread left old new ending kinds command batch closed why diff dry rounds ends kind keeps unwritten usage = inl (record {
+carries_out words (Ok cli) unread left old new ending kinds command batch closed why diff json dry rounds ends kind keeps unwritten usage = inl (record {
   cli = cli;
-  asked = record { faultless = kinds; command = command; batch = batch; rounds = rounds; closed = closed; why = why; diff = diff; dry = dry };
+  asked = record { faultless = kinds; command = command; batch = batch; rounds = rounds; closed = closed; why = why; diff = diff; json = json; dry = dry };
   ends = ends;
   kind = kind;
 })
-carries_out words (Err error) unread left old new ending kinds command batch closed why diff dry rounds ends kind keeps unwritten usage = inr (record {
+carries_out words (Err error) unread left old new ending kinds command batch closed why diff json dry rounds ends kind keeps unwritten usage = inr (record {
   error = error;
   fault = kinds;
   usage = usage;

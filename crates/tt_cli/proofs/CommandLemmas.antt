@@ -17,10 +17,10 @@ use Rattle.tt_cli.specs.declared.command_line.Cli.{Cli}
 use Rattle.clap.specs.Kinds.{HasKind, IsAmong, Kinds, or_else}
 use Rattle.clap.specs.declared.error.Error.{Error}
 use Rattle.clap.specs.declared.error.kind.ErrorKind.TheVariants.{MissingRequiredArgument}
-use Rattle.tt_cli.specs.CommandLine.{Asks, IsBatchOf, IsClosedOf, IsCommandOf, IsNumberOr, IsRoundsOf, IsSignedOr, IsWhyOf, IsDiffOf, IsDryOf, command_line, fault_of_subcommand, fault_of_words, given_text, lacks_log}
+use Rattle.tt_cli.specs.CommandLine.{Asks, IsBatchOf, IsClosedOf, IsCommandOf, IsNumberOr, IsRoundsOf, IsSignedOr, IsWhyOf, IsDiffOf, IsJsonOf, IsDryOf, command_line, fault_of_subcommand, fault_of_words, given_text, lacks_log}
 use Rattle.tt_cli.proofs.NumberLemmas.{ReadsBatch, ReadsNumber, ReadsRounds, reads_batch, reads_rounds}
 use Rattle.tt_cli.proofs.FlagLemmas.{reads_flag, reads_flag_or_none}
-use Rattle.tt_cli.proofs.SubcommandLemmas.{FitPath, HasCommand, HasLog, HasOptions, HasSession, batch_of, closed_of, diff_of, dry_of, rounds_of, takes_one, why_of}
+use Rattle.tt_cli.proofs.SubcommandLemmas.{FitPath, HasCommand, HasLog, HasOptions, HasSession, batch_of, closed_of, diff_of, dry_of, json_of, rounds_of, takes_one, why_of}
 use Rattle.tt_cli.proofs.RowLemmas.{first_is_given, given_is_some}
 
 is_simple_line : is_simple_and_free command_line ≡ true
@@ -250,6 +250,14 @@ module _ (words : List Text) (m : ArgMatches) (enters : Enters words m) where
         let one = one_is inner found (codes "diff") in
         let is = reads_flag (codes "diff") enters.1 read (diff_of enters.0 enters.1 has) (λ e. when_true (one ∙ e)) (λ e. when_false (one ∙ e)) in
         subst (λ (sub : Option (Text × List Row)). IsSomeAnd sub (λ s. read ≡ is_given (codes "diff") s.1)) (sym enters.2) is
+
+    pub json_is : (read : Bool) → (one_text (found_of inner) (codes "json") ≡ Some (codes "true") → read ≡ true)
+        → (one_text (found_of inner) (codes "json") ≡ Some (codes "false") → read ≡ false) → IsJsonOf words read
+    unfolding IsJsonOf
+    json_is read when_true when_false =
+        let one = one_is inner found (codes "json") in
+        let is = reads_flag (codes "json") enters.1 read (json_of enters.0 enters.1 has) (λ e. when_true (one ∙ e)) (λ e. when_false (one ∙ e)) in
+        subst (λ (sub : Option (Text × List Row)). IsSomeAnd sub (λ s. read ≡ is_given (codes "json") s.1)) (sym enters.2) is
 
     pub dry_is : (read : Bool) → (one_text (found_of inner) (codes "dry") ≡ None → read ≡ false)
         → (one_text (found_of inner) (codes "dry") ≡ Some (codes "true") → read ≡ true)

@@ -81,11 +81,11 @@ abbrev log_leaf : Shape
 log_leaf = fourth_shape (built command_line).subs
 
 replay_rules : replay_leaf.rules
-    ≡ batch_rule ∷ flag_rule (codes "closed") ∷ flag_rule (codes "why") ∷ flag_rule (codes "diff") ∷ flag_rule (codes "dry") ∷ help_rule ∷ []
+    ≡ batch_rule ∷ flag_rule (codes "closed") ∷ flag_rule (codes "why") ∷ flag_rule (codes "diff") ∷ flag_rule (codes "json") ∷ flag_rule (codes "dry") ∷ help_rule ∷ []
 replay_rules = refl
 
 run_rules : run_leaf.rules
-    ≡ batch_rule ∷ rounds_rule ∷ flag_rule (codes "closed") ∷ flag_rule (codes "why") ∷ flag_rule (codes "diff") ∷ help_rule ∷ []
+    ≡ batch_rule ∷ rounds_rule ∷ flag_rule (codes "closed") ∷ flag_rule (codes "why") ∷ flag_rule (codes "diff") ∷ flag_rule (codes "json") ∷ help_rule ∷ []
 run_rules = refl
 
 session_rules : session_leaf.rules ≡ log_rule ∷ flag_rule (codes "existing") ∷ help_rule ∷ []
@@ -187,18 +187,42 @@ module _ (id : Text) (how : Reading) (Passes : Text → Type 0) where
 
   -- the flags of both runs, and that of one of them
   abbrev RunFlagsFit : Type 0
-  RunFlagsFit = FlagFits (codes "closed") × FlagFits (codes "why") × FlagFits (codes "diff")
+  RunFlagsFit = FlagFits (codes "closed") × FlagFits (codes "why") × FlagFits (codes "diff") × FlagFits (codes "json")
 
   replay_uses : BatchFits → RunFlagsFit → FlagFits (codes "dry") → Each (Keeps false (AllFit id how Passes)) replay_leaf.rules
   replay_uses batch_fits flags dry_fits = (
     batch_keeps batch_fits,
-    (flag_keeps (codes "closed") flags.0, (flag_keeps (codes "why") flags.1, (flag_keeps (codes "diff") flags.2, (flag_keeps (codes "dry") dry_fits, (help_keeps, tt))))),
+    (
+      flag_keeps (codes "closed") flags.0,
+      (
+        flag_keeps (codes "why") flags.1,
+        (
+          flag_keeps (codes "diff") flags.2,
+          (
+            flag_keeps (codes "json") flags.3,
+            (flag_keeps (codes "dry") dry_fits, (help_keeps, tt)),
+          ),
+        ),
+      ),
+    ),
   )
 
   run_uses : BatchFits → RoundsFit → RunFlagsFit → Each (Keeps false (AllFit id how Passes)) run_leaf.rules
   run_uses batch_fits rounds_fit flags = (
     batch_keeps batch_fits,
-    (rounds_keep rounds_fit, (flag_keeps (codes "closed") flags.0, (flag_keeps (codes "why") flags.1, (flag_keeps (codes "diff") flags.2, (help_keeps, tt))))),
+    (
+      rounds_keep rounds_fit,
+      (
+        flag_keeps (codes "closed") flags.0,
+        (
+          flag_keeps (codes "why") flags.1,
+          (
+            flag_keeps (codes "diff") flags.2,
+            (flag_keeps (codes "json") flags.3, (help_keeps, tt)),
+          ),
+        ),
+      ),
+    ),
   )
 
   session_uses : PathFits (codes "log") → FlagFits (codes "existing") → Each (Keeps false (AllFit id how Passes)) session_leaf.rules
@@ -262,38 +286,44 @@ Uses s P = Each (Keeps false P) s.rules
 
 batch_uses : Uses replay_leaf FitBatch × Uses run_leaf FitBatch
 batch_uses = (
-  replay_uses (codes "batch") WithoutMinus (IsInRange 1 10000) (λ v passed same. (v, refl, refl, refl, passed)) (λ same. absurd (cc), λ same. absurd (cc), λ same. absurd (cc)) (λ same. absurd (cc)),
-  run_uses (codes "batch") WithoutMinus (IsInRange 1 10000) (λ v passed same. (v, refl, refl, refl, passed)) (λ v passed same. absurd (cc)) (λ same. absurd (cc), λ same. absurd (cc), λ same. absurd (cc)),
+  replay_uses (codes "batch") WithoutMinus (IsInRange 1 10000) (λ v passed same. (v, refl, refl, refl, passed)) (λ same. absurd (cc), λ same. absurd (cc), λ same. absurd (cc), λ same. absurd (cc)) (λ same. absurd (cc)),
+  run_uses (codes "batch") WithoutMinus (IsInRange 1 10000) (λ v passed same. (v, refl, refl, refl, passed)) (λ v passed same. absurd (cc)) (λ same. absurd (cc), λ same. absurd (cc), λ same. absurd (cc), λ same. absurd (cc)),
 )
 
 rounds_uses : Uses replay_leaf FitNoRounds × Uses run_leaf FitRounds
 rounds_uses = (
-  replay_uses (codes "rounds") WithoutMinus (λ _. ⊥) (λ v passed same. absurd (cc)) (λ same. absurd (cc), λ same. absurd (cc), λ same. absurd (cc)) (λ same. absurd (cc)),
-  run_uses (codes "rounds") WithoutMinus (IsInRange 0 1000) (λ v passed same. absurd (cc)) (λ v passed same. (v, refl, refl, refl, passed)) (λ same. absurd (cc), λ same. absurd (cc), λ same. absurd (cc)),
+  replay_uses (codes "rounds") WithoutMinus (λ _. ⊥) (λ v passed same. absurd (cc)) (λ same. absurd (cc), λ same. absurd (cc), λ same. absurd (cc), λ same. absurd (cc)) (λ same. absurd (cc)),
+  run_uses (codes "rounds") WithoutMinus (IsInRange 0 1000) (λ v passed same. absurd (cc)) (λ v passed same. (v, refl, refl, refl, passed)) (λ same. absurd (cc), λ same. absurd (cc), λ same. absurd (cc), λ same. absurd (cc)),
 )
 
 closed_uses : Uses replay_leaf (FitFlag (codes "closed")) × Uses run_leaf (FitFlag (codes "closed"))
 closed_uses = (
-  replay_uses (codes "closed") AsWritten IsTrueText (λ v passed same. absurd (cc)) (λ same. (codes "true", refl, refl, refl, refl), λ same. absurd (cc), λ same. absurd (cc)) (λ same. absurd (cc)),
-  run_uses (codes "closed") AsWritten IsTrueText (λ v passed same. absurd (cc)) (λ v passed same. absurd (cc)) (λ same. (codes "true", refl, refl, refl, refl), λ same. absurd (cc), λ same. absurd (cc)),
+  replay_uses (codes "closed") AsWritten IsTrueText (λ v passed same. absurd (cc)) (λ same. (codes "true", refl, refl, refl, refl), λ same. absurd (cc), λ same. absurd (cc), λ same. absurd (cc)) (λ same. absurd (cc)),
+  run_uses (codes "closed") AsWritten IsTrueText (λ v passed same. absurd (cc)) (λ v passed same. absurd (cc)) (λ same. (codes "true", refl, refl, refl, refl), λ same. absurd (cc), λ same. absurd (cc), λ same. absurd (cc)),
 )
 
 why_uses : Uses replay_leaf (FitFlag (codes "why")) × Uses run_leaf (FitFlag (codes "why"))
 why_uses = (
-  replay_uses (codes "why") AsWritten IsTrueText (λ v passed same. absurd (cc)) (λ same. absurd (cc), λ same. (codes "true", refl, refl, refl, refl), λ same. absurd (cc)) (λ same. absurd (cc)),
-  run_uses (codes "why") AsWritten IsTrueText (λ v passed same. absurd (cc)) (λ v passed same. absurd (cc)) (λ same. absurd (cc), λ same. (codes "true", refl, refl, refl, refl), λ same. absurd (cc)),
+  replay_uses (codes "why") AsWritten IsTrueText (λ v passed same. absurd (cc)) (λ same. absurd (cc), λ same. (codes "true", refl, refl, refl, refl), λ same. absurd (cc), λ same. absurd (cc)) (λ same. absurd (cc)),
+  run_uses (codes "why") AsWritten IsTrueText (λ v passed same. absurd (cc)) (λ v passed same. absurd (cc)) (λ same. absurd (cc), λ same. (codes "true", refl, refl, refl, refl), λ same. absurd (cc), λ same. absurd (cc)),
 )
 
 diff_uses : Uses replay_leaf (FitFlag (codes "diff")) × Uses run_leaf (FitFlag (codes "diff"))
 diff_uses = (
-  replay_uses (codes "diff") AsWritten IsTrueText (λ v passed same. absurd (cc)) (λ same. absurd (cc), λ same. absurd (cc), λ same. (codes "true", refl, refl, refl, refl)) (λ same. absurd (cc)),
-  run_uses (codes "diff") AsWritten IsTrueText (λ v passed same. absurd (cc)) (λ v passed same. absurd (cc)) (λ same. absurd (cc), λ same. absurd (cc), λ same. (codes "true", refl, refl, refl, refl)),
+  replay_uses (codes "diff") AsWritten IsTrueText (λ v passed same. absurd (cc)) (λ same. absurd (cc), λ same. absurd (cc), λ same. (codes "true", refl, refl, refl, refl), λ same. absurd (cc)) (λ same. absurd (cc)),
+  run_uses (codes "diff") AsWritten IsTrueText (λ v passed same. absurd (cc)) (λ v passed same. absurd (cc)) (λ same. absurd (cc), λ same. absurd (cc), λ same. (codes "true", refl, refl, refl, refl), λ same. absurd (cc)),
+)
+
+json_uses : Uses replay_leaf (FitFlag (codes "json")) × Uses run_leaf (FitFlag (codes "json"))
+json_uses = (
+  replay_uses (codes "json") AsWritten IsTrueText (λ v passed same. absurd (cc)) (λ same. absurd (cc), λ same. absurd (cc), λ same. absurd (cc), λ same. (codes "true", refl, refl, refl, refl)) (λ same. absurd (cc)),
+  run_uses (codes "json") AsWritten IsTrueText (λ v passed same. absurd (cc)) (λ v passed same. absurd (cc)) (λ same. absurd (cc), λ same. absurd (cc), λ same. absurd (cc), λ same. (codes "true", refl, refl, refl, refl)),
 )
 
 dry_uses : Uses replay_leaf (FitFlag (codes "dry")) × Uses run_leaf (FitNoFlag (codes "dry"))
 dry_uses = (
-  replay_uses (codes "dry") AsWritten IsTrueText (λ v passed same. absurd (cc)) (λ same. absurd (cc), λ same. absurd (cc), λ same. absurd (cc)) (λ same. (codes "true", refl, refl, refl, refl)),
-  run_uses (codes "dry") AsWritten (λ _. ⊥) (λ v passed same. absurd (cc)) (λ v passed same. absurd (cc)) (λ same. absurd (cc), λ same. absurd (cc), λ same. absurd (cc)),
+  replay_uses (codes "dry") AsWritten IsTrueText (λ v passed same. absurd (cc)) (λ same. absurd (cc), λ same. absurd (cc), λ same. absurd (cc), λ same. absurd (cc)) (λ same. (codes "true", refl, refl, refl, refl)),
+  run_uses (codes "dry") AsWritten (λ _. ⊥) (λ v passed same. absurd (cc)) (λ v passed same. absurd (cc)) (λ same. absurd (cc), λ same. absurd (cc), λ same. absurd (cc), λ same. absurd (cc)),
 )
 
 path_uses : Uses session_leaf (FitPath (codes "log")) × Uses log_leaf (FitPath (codes "file"))
@@ -322,23 +352,25 @@ flag_default name = (name, AsWritten, codes "false" ∷ [])
 
 abbrev replay_defaults : List Default
 replay_defaults =
-    batch_default ∷ flag_default (codes "closed") ∷ flag_default (codes "why") ∷ flag_default (codes "diff") ∷ flag_default (codes "dry") ∷ []
+    batch_default ∷ flag_default (codes "closed") ∷ flag_default (codes "why") ∷ flag_default (codes "diff") ∷ flag_default (codes "json")
+    ∷ flag_default (codes "dry") ∷ []
 
 abbrev run_defaults : List Default
 run_defaults =
-    batch_default ∷ rounds_default ∷ flag_default (codes "closed") ∷ flag_default (codes "why") ∷ flag_default (codes "diff") ∷ []
+    batch_default ∷ rounds_default ∷ flag_default (codes "closed") ∷ flag_default (codes "why") ∷ flag_default (codes "diff")
+    ∷ flag_default (codes "json") ∷ []
 
 -- ---- one level
 
 -- `replay` was entered, and has a row for each of its options
 abbrev pub HasReplay : Text → List Row → Type 0
 HasReplay name rows = (name ≡ codes "replay") × HasBatch rows × HasFlag (codes "closed") rows × HasFlag (codes "why") rows
-    × HasFlag (codes "diff") rows × HasFlag (codes "dry") rows × HasNoRow (codes "rounds") rows
+    × HasFlag (codes "diff") rows × HasFlag (codes "json") rows × HasFlag (codes "dry") rows × HasNoRow (codes "rounds") rows
 
 -- `run` was entered, and has a row for each of its options
 abbrev pub HasRun : Text → List Row → Type 0
 HasRun name rows = (name ≡ codes "run") × HasBatch rows × HasFlag (codes "closed") rows × HasFlag (codes "why") rows
-    × HasFlag (codes "diff") rows × HasNoRow (codes "dry") rows × HasRounds rows
+    × HasFlag (codes "diff") rows × HasFlag (codes "json") rows × HasNoRow (codes "dry") rows × HasRounds rows
 
 -- `replay` or `run` was entered, and has a row for each of its options
 abbrev pub HasOptions : Text → List Row → Type 0
@@ -368,36 +400,41 @@ why_of name rows has = elim has [ inl replay ↦ replay.3 | inr run ↦ run.3 ]
 pub diff_of : (name : Text) (rows : List Row) → HasOptions name rows → HasFlag (codes "diff") rows
 diff_of name rows has = elim has [ inl replay ↦ replay.4 | inr run ↦ run.4 ]
 
+pub json_of : (name : Text) (rows : List Row) → HasOptions name rows → HasFlag (codes "json") rows
+json_of name rows has = elim has [ inl replay ↦ replay.5 | inr run ↦ run.5 ]
+
 pub dry_of : (name : Text) (rows : List Row) → HasOptions name rows → HasFlag (codes "dry") rows ⊎ HasNoRow (codes "dry") rows
-dry_of name rows has = elim has [ inl replay ↦ inl replay.5 | inr run ↦ inr run.5 ]
+dry_of name rows has = elim has [ inl replay ↦ inl replay.6 | inr run ↦ inr run.6 ]
 
 pub rounds_of : (name : Text) (rows : List Row) → HasOptions name rows → HasRounds rows ⊎ HasNoRow (codes "rounds") rows
-rounds_of name rows has = elim has [ inl replay ↦ inr replay.6 | inr run ↦ inl run.6 ]
+rounds_of name rows has = elim has [ inl replay ↦ inr replay.7 | inr run ↦ inl run.7 ]
 
 replay_has : (rows : List Row) → FitBatch rows → FitFlag (codes "closed") rows → FitFlag (codes "why") rows → FitFlag (codes "diff") rows
-    → FitFlag (codes "dry") rows → FitNoRounds rows → HasReplay (codes "replay") (after_defaults replay_defaults rows)
-replay_has rows batch_fit closed_fit why_fit diff_fit dry_fit none_fit = (
+    → FitFlag (codes "json") rows → FitFlag (codes "dry") rows → FitNoRounds rows → HasReplay (codes "replay") (after_defaults replay_defaults rows)
+replay_has rows batch_fit closed_fit why_fit diff_fit json_fit dry_fit none_fit = (
   refl,
-  defaults_have (codes "batch") WithoutMinus (IsInRange 1 10000) (codes "16") refl [] (flag_default (codes "closed") ∷ flag_default (codes "why") ∷ flag_default (codes "diff") ∷ flag_default (codes "dry") ∷ []) tt rows batch_fit,
-  defaults_have (codes "closed") AsWritten IsTrueText (codes "false") refl (batch_default ∷ []) (flag_default (codes "why") ∷ flag_default (codes "diff") ∷ flag_default (codes "dry") ∷ []) ((λ same. absurd (cc)), tt) rows closed_fit,
-  defaults_have (codes "why") AsWritten IsTrueText (codes "false") refl (batch_default ∷ flag_default (codes "closed") ∷ []) (flag_default (codes "diff") ∷ flag_default (codes "dry") ∷ []) ((λ same. absurd (cc)), ((λ same. absurd (cc)), tt)) rows why_fit,
-  defaults_have (codes "diff") AsWritten IsTrueText (codes "false") refl (batch_default ∷ flag_default (codes "closed") ∷ flag_default (codes "why") ∷ []) (flag_default (codes "dry") ∷ []) ((λ same. absurd (cc)), ((λ same. absurd (cc)), ((λ same. absurd (cc)), tt))) rows diff_fit,
-  defaults_have (codes "dry") AsWritten IsTrueText (codes "false") refl (batch_default ∷ flag_default (codes "closed") ∷ flag_default (codes "why") ∷ flag_default (codes "diff") ∷ []) [] ((λ same. absurd (cc)), ((λ same. absurd (cc)), ((λ same. absurd (cc)), ((λ same. absurd (cc)), tt)))) rows dry_fit,
+  defaults_have (codes "batch") WithoutMinus (IsInRange 1 10000) (codes "16") refl [] (flag_default (codes "closed") ∷ flag_default (codes "why") ∷ flag_default (codes "diff") ∷ flag_default (codes "json") ∷ flag_default (codes "dry") ∷ []) tt rows batch_fit,
+  defaults_have (codes "closed") AsWritten IsTrueText (codes "false") refl (batch_default ∷ []) (flag_default (codes "why") ∷ flag_default (codes "diff") ∷ flag_default (codes "json") ∷ flag_default (codes "dry") ∷ []) ((λ same. absurd (cc)), tt) rows closed_fit,
+  defaults_have (codes "why") AsWritten IsTrueText (codes "false") refl (batch_default ∷ flag_default (codes "closed") ∷ []) (flag_default (codes "diff") ∷ flag_default (codes "json") ∷ flag_default (codes "dry") ∷ []) ((λ same. absurd (cc)), ((λ same. absurd (cc)), tt)) rows why_fit,
+  defaults_have (codes "diff") AsWritten IsTrueText (codes "false") refl (batch_default ∷ flag_default (codes "closed") ∷ flag_default (codes "why") ∷ []) (flag_default (codes "json") ∷ flag_default (codes "dry") ∷ []) ((λ same. absurd (cc)), ((λ same. absurd (cc)), ((λ same. absurd (cc)), tt))) rows diff_fit,
+  defaults_have (codes "json") AsWritten IsTrueText (codes "false") refl (batch_default ∷ flag_default (codes "closed") ∷ flag_default (codes "why") ∷ flag_default (codes "diff") ∷ []) (flag_default (codes "dry") ∷ []) ((λ same. absurd (cc)), ((λ same. absurd (cc)), ((λ same. absurd (cc)), ((λ same. absurd (cc)), tt)))) rows json_fit,
+  defaults_have (codes "dry") AsWritten IsTrueText (codes "false") refl (batch_default ∷ flag_default (codes "closed") ∷ flag_default (codes "why") ∷ flag_default (codes "diff") ∷ flag_default (codes "json") ∷ []) [] ((λ same. absurd (cc)), ((λ same. absurd (cc)), ((λ same. absurd (cc)), ((λ same. absurd (cc)), ((λ same. absurd (cc)), tt))))) rows dry_fit,
   none_has (codes "rounds") WithoutMinus (after_defaults replay_defaults rows)
-      (defaults_keep (codes "rounds") WithoutMinus (λ _. ⊥) replay_defaults ((λ same. absurd (cc)), ((λ same. absurd (cc)), ((λ same. absurd (cc)), ((λ same. absurd (cc)), ((λ same. absurd (cc)), tt))))) rows none_fit),
+      (defaults_keep (codes "rounds") WithoutMinus (λ _. ⊥) replay_defaults ((λ same. absurd (cc)), ((λ same. absurd (cc)), ((λ same. absurd (cc)), ((λ same. absurd (cc)), ((λ same. absurd (cc)), ((λ same. absurd (cc)), tt)))))) rows none_fit),
 )
 
 run_has : (rows : List Row) → FitBatch rows → FitRounds rows → FitFlag (codes "closed") rows → FitFlag (codes "why") rows
-    → FitFlag (codes "diff") rows → FitNoFlag (codes "dry") rows → HasRun (codes "run") (after_defaults run_defaults rows)
-run_has rows batch_fit rounds_fit closed_fit why_fit diff_fit none_fit = (
+    → FitFlag (codes "diff") rows → FitFlag (codes "json") rows → FitNoFlag (codes "dry") rows → HasRun (codes "run") (after_defaults run_defaults rows)
+run_has rows batch_fit rounds_fit closed_fit why_fit diff_fit json_fit none_fit = (
   refl,
-  defaults_have (codes "batch") WithoutMinus (IsInRange 1 10000) (codes "16") refl [] (rounds_default ∷ flag_default (codes "closed") ∷ flag_default (codes "why") ∷ flag_default (codes "diff") ∷ []) tt rows batch_fit,
-  defaults_have (codes "closed") AsWritten IsTrueText (codes "false") refl (batch_default ∷ rounds_default ∷ []) (flag_default (codes "why") ∷ flag_default (codes "diff") ∷ []) ((λ same. absurd (cc)), ((λ same. absurd (cc)), tt)) rows closed_fit,
-  defaults_have (codes "why") AsWritten IsTrueText (codes "false") refl (batch_default ∷ rounds_default ∷ flag_default (codes "closed") ∷ []) (flag_default (codes "diff") ∷ []) ((λ same. absurd (cc)), ((λ same. absurd (cc)), ((λ same. absurd (cc)), tt))) rows why_fit,
-  defaults_have (codes "diff") AsWritten IsTrueText (codes "false") refl (batch_default ∷ rounds_default ∷ flag_default (codes "closed") ∷ flag_default (codes "why") ∷ []) [] ((λ same. absurd (cc)), ((λ same. absurd (cc)), ((λ same. absurd (cc)), ((λ same. absurd (cc)), tt)))) rows diff_fit,
+  defaults_have (codes "batch") WithoutMinus (IsInRange 1 10000) (codes "16") refl [] (rounds_default ∷ flag_default (codes "closed") ∷ flag_default (codes "why") ∷ flag_default (codes "diff") ∷ flag_default (codes "json") ∷ []) tt rows batch_fit,
+  defaults_have (codes "closed") AsWritten IsTrueText (codes "false") refl (batch_default ∷ rounds_default ∷ []) (flag_default (codes "why") ∷ flag_default (codes "diff") ∷ flag_default (codes "json") ∷ []) ((λ same. absurd (cc)), ((λ same. absurd (cc)), tt)) rows closed_fit,
+  defaults_have (codes "why") AsWritten IsTrueText (codes "false") refl (batch_default ∷ rounds_default ∷ flag_default (codes "closed") ∷ []) (flag_default (codes "diff") ∷ flag_default (codes "json") ∷ []) ((λ same. absurd (cc)), ((λ same. absurd (cc)), ((λ same. absurd (cc)), tt))) rows why_fit,
+  defaults_have (codes "diff") AsWritten IsTrueText (codes "false") refl (batch_default ∷ rounds_default ∷ flag_default (codes "closed") ∷ flag_default (codes "why") ∷ []) (flag_default (codes "json") ∷ []) ((λ same. absurd (cc)), ((λ same. absurd (cc)), ((λ same. absurd (cc)), ((λ same. absurd (cc)), tt)))) rows diff_fit,
+  defaults_have (codes "json") AsWritten IsTrueText (codes "false") refl (batch_default ∷ rounds_default ∷ flag_default (codes "closed") ∷ flag_default (codes "why") ∷ flag_default (codes "diff") ∷ []) [] ((λ same. absurd (cc)), ((λ same. absurd (cc)), ((λ same. absurd (cc)), ((λ same. absurd (cc)), ((λ same. absurd (cc)), tt))))) rows json_fit,
   none_has (codes "dry") AsWritten (after_defaults run_defaults rows)
-      (defaults_keep (codes "dry") AsWritten (λ _. ⊥) run_defaults ((λ same. absurd (cc)), ((λ same. absurd (cc)), ((λ same. absurd (cc)), ((λ same. absurd (cc)), ((λ same. absurd (cc)), tt))))) rows none_fit),
-  defaults_have (codes "rounds") WithoutMinus (IsInRange 0 1000) (codes "8") refl (batch_default ∷ []) (flag_default (codes "closed") ∷ flag_default (codes "why") ∷ flag_default (codes "diff") ∷ []) ((λ same. absurd (cc)), tt) rows rounds_fit,
+      (defaults_keep (codes "dry") AsWritten (λ _. ⊥) run_defaults ((λ same. absurd (cc)), ((λ same. absurd (cc)), ((λ same. absurd (cc)), ((λ same. absurd (cc)), ((λ same. absurd (cc)), ((λ same. absurd (cc)), tt)))))) rows none_fit),
+  defaults_have (codes "rounds") WithoutMinus (IsInRange 0 1000) (codes "8") refl (batch_default ∷ []) (flag_default (codes "closed") ∷ flag_default (codes "why") ∷ flag_default (codes "diff") ∷ flag_default (codes "json") ∷ []) ((λ same. absurd (cc)), tt) rows rounds_fit,
 )
 
 at_replay : (words : List Text) → level_fault replay_leaf [] nothing_held words false [] ≡ [] → HasOptions (codes "replay") (rows_after replay_leaf.rules [] words)
@@ -407,10 +444,11 @@ at_replay words e =
     let closed_fit = words_fit replay_leaf (FitFlag (codes "closed")) closed_uses.0 tt words e in
     let why_fit = words_fit replay_leaf (FitFlag (codes "why")) why_uses.0 tt words e in
     let diff_fit = words_fit replay_leaf (FitFlag (codes "diff")) diff_uses.0 tt words e in
+    let json_fit = words_fit replay_leaf (FitFlag (codes "json")) json_uses.0 tt words e in
     let dry_fit = words_fit replay_leaf (FitFlag (codes "dry")) dry_uses.0 tt words e in
     let none_fit = words_fit replay_leaf FitNoRounds rounds_uses.0 tt words e in
     let last = after_defaults replay_defaults rows in
-    same_rows (HasOptions (codes "replay")) (has_row (codes "help") last) last (inl (replay_has rows batch_fit closed_fit why_fit diff_fit dry_fit none_fit))
+    same_rows (HasOptions (codes "replay")) (has_row (codes "help") last) last (inl (replay_has rows batch_fit closed_fit why_fit diff_fit json_fit dry_fit none_fit))
 
 at_run : (words : List Text) → level_fault run_leaf [] nothing_held words false [] ≡ [] → HasOptions (codes "run") (rows_after run_leaf.rules [] words)
 at_run words e =
@@ -420,9 +458,10 @@ at_run words e =
     let closed_fit = words_fit run_leaf (FitFlag (codes "closed")) closed_uses.1 tt words e in
     let why_fit = words_fit run_leaf (FitFlag (codes "why")) why_uses.1 tt words e in
     let diff_fit = words_fit run_leaf (FitFlag (codes "diff")) diff_uses.1 tt words e in
+    let json_fit = words_fit run_leaf (FitFlag (codes "json")) json_uses.1 tt words e in
     let none_fit = words_fit run_leaf (FitNoFlag (codes "dry")) dry_uses.1 tt words e in
     let last = after_defaults run_defaults rows in
-    same_rows (HasOptions (codes "run")) (has_row (codes "help") last) last (inr (run_has rows batch_fit rounds_fit closed_fit why_fit diff_fit none_fit))
+    same_rows (HasOptions (codes "run")) (has_row (codes "help") last) last (inr (run_has rows batch_fit rounds_fit closed_fit why_fit diff_fit json_fit none_fit))
 
 at_session : (words : List Text) → level_fault session_leaf [] nothing_held words false [] ≡ [] → HasSession (codes "session") (rows_after session_leaf.rules [] words)
 at_session words e =

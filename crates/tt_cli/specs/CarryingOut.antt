@@ -8,7 +8,7 @@ use Rattle.tt_cli.specs.declared.command_line.Cli.{Cli}
 use Rattle.tt_cli.specs.declared.command_line.Cli.TheVariants as commands
 use Rattle.tt_cli.specs.declared.ending.Ending.{Ending}
 use Rattle.tt_cli.specs.declared.ending.Ending.TheVariants as endings
-use Rattle.tt_cli.specs.CommandLine.{fault_of_words, options_of, IsCommandOf, IsBatchOf, IsRoundsOf, IsClosedOf, IsWhyOf, IsDiffOf, IsDryOf}
+use Rattle.tt_cli.specs.CommandLine.{fault_of_words, options_of, IsCommandOf, IsBatchOf, IsRoundsOf, IsClosedOf, IsWhyOf, IsDiffOf, IsJsonOf, IsDryOf}
 use Rattle.tt_cli.specs.Ending.{IsEndingOfUsage}
 use Rattle.tt_cli.specs.Status.{has_text}
 use Rattle.tt_cli.specs.Logging.{IsEndingOfSession, IsEndingOfLook}
@@ -23,6 +23,7 @@ pub record AskFor (words : List Text) (cli : Cli) : Type 0 where
   pub closed : IfSome (options_of cli) (λ options. IsClosedOf words options.closed)
   pub why : IfSome (options_of cli) (λ options. IsWhyOf words options.why)
   pub diff : IfSome (options_of cli) (λ options. IsDiffOf words options.diff)
+  pub json : IfSome (options_of cli) (λ options. IsJsonOf words options.json)
   pub dry : IfSome (options_of cli) (λ options. IsDryOf words options.dry)
 
 -- what a command asks for has failed, and there was no memory for the line of its fault

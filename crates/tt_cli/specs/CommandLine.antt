@@ -1,5 +1,5 @@
 -- The command line: `timetravel`, with its version and four subcommands. `replay` takes `--batch`,
--- `--closed`, `--why`, `--diff` and `--dry`; `run` takes `--rounds` in place of `--dry`; `session` takes `--log`, and `--existing` beside it; `log` takes a file.
+-- `--closed`, `--why`, `--diff`, `--json` and `--dry`; `run` takes `--rounds` in place of `--dry`; `session` takes `--log`, and `--existing` beside it; `log` takes a file.
 use Rattle.std.specs.Prelude.{◌≡◌, ℕ, ◌∷◌, [], List, Option, Some, None, Ok, IsSomeAnd, codes, pos}
 use Rattle.std.specs.Prelude.{Bool, if◌then◌else◌, true, false, not, ◌&&◌}
 use Rattle.std.specs.Option.{option_map_or}
@@ -56,6 +56,10 @@ why = record (new_rule (codes "why")) { long = Some (codes "why"); action = Some
 abbrev pub diff : Rule
 diff = record (new_rule (codes "diff")) { long = Some (codes "diff"); action = Some SetTrue }
 
+-- `--json`, which takes no value
+abbrev pub json : Rule
+json = record (new_rule (codes "json")) { long = Some (codes "json"); action = Some SetTrue }
+
 -- `--dry`, which takes no value
 abbrev pub dry : Rule
 dry = record (new_rule (codes "dry")) { long = Some (codes "dry"); action = Some SetTrue }
@@ -73,10 +77,10 @@ abbrev pub log_argument : Rule
 log_argument = record (new_rule (codes "file")) { action = Some Set; value_names = 1; required = true }
 
 abbrev pub replay : App
-replay = with_rule (with_rule (with_rule (with_rule (with_rule (new_app (codes "replay")) batch) closed) why) diff) dry
+replay = with_rule (with_rule (with_rule (with_rule (with_rule (with_rule (new_app (codes "replay")) batch) closed) why) diff) json) dry
 
 abbrev pub run : App
-run = with_rule (with_rule (with_rule (with_rule (with_rule (new_app (codes "run")) batch) rounds) closed) why) diff
+run = with_rule (with_rule (with_rule (with_rule (with_rule (with_rule (new_app (codes "run")) batch) rounds) closed) why) diff) json
 
 abbrev pub session : App
 session = with_rule (with_rule (new_app (codes "session")) log_option) existing
@@ -161,6 +165,11 @@ IsWhyOf words given = IsSomeAnd (subcommand_of command_line words) (λ sub.
 unfoldable pub IsDiffOf : List Text → Bool → Type 0
 IsDiffOf words given = IsSomeAnd (subcommand_of command_line words) (λ sub.
     given ≡ is_given (codes "diff") sub.1)
+
+-- whether the words give `--json`
+unfoldable pub IsJsonOf : List Text → Bool → Type 0
+IsJsonOf words given = IsSomeAnd (subcommand_of command_line words) (λ sub.
+    given ≡ is_given (codes "json") sub.1)
 
 -- whether the words give `--dry`, which `run` doesn't take
 unfoldable pub IsDryOf : List Text → Bool → Type 0

@@ -2,8 +2,8 @@
 ghost use Rattle.std.specs.Prelude.{◌≡◌, IfOk, IfSome, map, string_bytes};
 ghost use Rattle.clap.specs.Words.{FailsBy, app_of, kind_of, rule_of};
 ghost use Rattle.clap.specs.declared.error.kind.ErrorKind.TheVariants.{MissingRequiredArgument};
-ghost use Rattle.tt_cli.specs.CommandLine.{IsCommandOf, IsBatchOf, IsRoundsOf, IsClosedOf, IsWhyOf, IsDiffOf, IsDryOf};
-ghost use Rattle.tt_cli.specs.CommandLine.{batch, rounds, closed, why, diff, dry, replay, run};
+ghost use Rattle.tt_cli.specs.CommandLine.{IsCommandOf, IsBatchOf, IsRoundsOf, IsClosedOf, IsWhyOf, IsDiffOf, IsJsonOf, IsDryOf};
+ghost use Rattle.tt_cli.specs.CommandLine.{batch, rounds, closed, why, diff, json, dry, replay, run};
 ghost use Rattle.tt_cli.specs.CommandLine.{log_option, existing, log_argument, session, log};
 ghost use Rattle.tt_cli.specs.CommandLine.{program, command_line, fault_of_words, options_of};
 ghost use Rattle.tt_workload.specs.Options.{AreWithin};
@@ -54,6 +54,7 @@ repair has redone, with its cause, follows the repair's own. With --diff, one fo
 has changed follows the changed replies: what the row was, and what it is. With --closed, one for
 each table of each closed generation that is kept follows these: its rows at that generation's last
 time. With --dry, `replay` gives the repair up before its switch, and tells what it would change.
+With --json, the same lines are printed as JSON, one object each, as a session tells them.
 `session` reads no such document, but requests: see `timetravel session --help`. `log` reads the log
 of a session."#;
 
@@ -126,6 +127,8 @@ pub fn command_of<'a>(alloc: Global, words: &'a [String]) -> Result<Cli<'a>, Err
         IsWhyOf (map string_bytes words.entry.now) options.why)) }
     ensures diff { IfOk result (λ cli. IfSome (options_of cli) (λ options.
         IsDiffOf (map string_bytes words.entry.now) options.diff)) }
+    ensures json { IfOk result (λ cli. IfSome (options_of cli) (λ options.
+        IsJsonOf (map string_bytes words.entry.now) options.json)) }
     ensures dry { IfOk result (λ cli. IfSome (options_of cli) (λ options.
         IsDryOf (map string_bytes words.entry.now) options.dry)) }
     ensures rounds { IfOk result (λ cli. IfSome (options_of cli) (λ options.
@@ -161,6 +164,7 @@ pub fn command_of<'a>(alloc: Global, words: &'a [String]) -> Result<Cli<'a>, Err
     let closed = given.get_flag("closed");
     let why = given.get_flag("why");
     let diff = given.get_flag("diff");
+    let json = given.get_flag("json");
     let dry = given.get_flag("dry");
     let options = Options {
         batch,
@@ -169,6 +173,7 @@ pub fn command_of<'a>(alloc: Global, words: &'a [String]) -> Result<Cli<'a>, Err
         why,
         diff,
         dry,
+        json,
     };
     if name == "run" {
         return Ok(Cli::Run(options));
@@ -223,6 +228,7 @@ fn replay<'a>(alloc: Global) -> Result<Command<'a>, AllocError>
         .arg(closed(alloc))?
         .arg(why(alloc))?
         .arg(diff(alloc))?
+        .arg(json(alloc))?
         .arg(dry(alloc))
 }
 
@@ -237,7 +243,8 @@ fn run<'a>(alloc: Global) -> Result<Command<'a>, AllocError>
         .arg(rounds(alloc))?
         .arg(closed(alloc))?
         .arg(why(alloc))?
-        .arg(diff(alloc))
+        .arg(diff(alloc))?
+        .arg(json(alloc))
 }
 
 /// The subcommand that answers line by line.
@@ -347,6 +354,16 @@ fn diff<'a>(alloc: Global) -> Arg<'a>
         .long("diff")
         .action(ArgAction::SetTrue)
         .help("Prints each row that the repair has changed, as it was and as it is")
+}
+
+/// The option `--json`.
+fn json<'a>(alloc: Global) -> Arg<'a>
+    ensures { rule_of result ≡ json }
+{
+    Arg::new(alloc, "json")
+        .long("json")
+        .action(ArgAction::SetTrue)
+        .help("Prints the report as JSON, one object a line")
 }
 
 /// The option `--dry`.

@@ -20,6 +20,7 @@ use Rattle.tt_commands.specs.Room.{has_no_room_to_end}
 use Rattle.tt_commands.specs.Sound.{IsSound}
 use Rattle.tt_commands.specs.Invariants.{IsOpenSession}
 use Rattle.tt_commands.specs.Changes.{moved_record, records_behind, forgotten_by}
+use Rattle.tt_commands.proofs.RecordLemmas.{few_rows-behind}
 use Rattle.tt_commands.specs.Forgetting.{forgetting_of, forget_refusal, unless_forget_refused}
 
 pub from_forget : (refusal : Option Refusal) (a b : Answered) → unless_forget_refused refusal a ≡ Ok b → (refusal ≡ None) × (a ≡ b)
@@ -107,6 +108,7 @@ forgetting-sound session time sound can =
       };
       few_records = omega arith;
       few_kept = omega arith;
+      few_rows = omega arith;
     }
 
 -- with the records that are still there
@@ -121,6 +123,7 @@ behind-sound before db earlier n records most time size sound is = record {
   numbered = is.numbered;
   few_records = omega (arith, few-behind time size records, sound.few_records);
   few_kept = sound.few_kept;
+  few_rows = omega (arith, few_rows-behind time size records, sound.few_rows);
 }
 
 pub forgotten-sound : (session : OpenSession) (time : ToldTime) → IsOpenSession session → forget_refusal session time ≡ None → IsOpenSession (forgotten_by session (forgetting_of session time))

@@ -1,5 +1,5 @@
 -- An open session goes on as one, whatever it is asked.
-use Rattle.std.proofs.Common.{◌≡◌, ℕ, ◌+◌, ◌-◌, ◌≤◌, min, Bool, true, false, cond, map, List, [], ◌∷◌, ◌++◌, length, Option, None, Some, Result, Ok, Err, OnOk, IfErr, ◌≢◌, refl, sym, ap, subst, ◌∙◌, arith, length-drop}
+use Rattle.std.proofs.Common.{◌≡◌, ℕ, ◌+◌, ◌-◌, ◌≤◌, min, Bool, true, false, cond, map, List, [], ◌∷◌, ◌++◌, length, Option, None, Some, Result, Ok, Err, OnOk, OnErr, IfErr, ◌≢◌, refl, sym, ap, subst, ◌∙◌, arith, length-drop}
 use Rattle.std.specs.Option.{option_or, option_map, unwrap_or}
 use Rattle.tt_values.specs.declared.action.Action.{Action}
 use Rattle.tt_values.specs.declared.statement.Select.{Select}
@@ -15,7 +15,7 @@ use Rattle.tt_db.specs.declared.limits.Limits.{Limits}
 use Rattle.tt_db.specs.declared.errors.DbError.TheVariants as errors
 use Rattle.tt_db.specs.Limits.{Fits}
 use Rattle.tt_db.specs.declared.errors.ReadError.{ReadError}
-use Rattle.tt_db.specs.State.{State, next_state, slots_left, refused_if, unless_repairing, last_items}
+use Rattle.tt_db.specs.State.{State, next_state, slots_left, refused_if, unless_repairing}
 use Rattle.tt_db.specs.Database.{Database, state_of, refusal_of, now_in, current_of_db, repair_worker_of, right_preview_of}
 use Rattle.tt_records.specs.declared.record.Record.{Record}
 use Rattle.tt_records.specs.declared.record.What.{What}
@@ -30,11 +30,14 @@ use Rattle.tt_requests.specs.declared.request.Page.{Page}
 use Rattle.tt_requests.specs.declared.told.ToldTime.{ToldTime}
 use Rattle.tt_requests.specs.declared.told.ToldGeneration.{ToldGeneration}
 use Rattle.tt_requests.specs.Numbers.{Numbering, own_time, own_generation}
+use Rattle.tt_requests.specs.Opening.{max_records}
 use Rattle.tt_answers.specs.declared.answer.Answer.{Answer}
 use Rattle.tt_answers.specs.declared.answer.Answer.TheVariants as answers
 use Rattle.tt_answers.specs.declared.answer.Refusal.{Refusal}
 use Rattle.tt_db.proofs.EntryLemmas.{after-push}
-use Rattle.tt_commands.specs.Session.{OpenSession, state_in, with_database, with_latest_if}
+use Rattle.tt_commands.specs.declared.session_change.StampedSlot.{StampedSlot}
+use Rattle.tt_commands.specs.Records.{max_record_rows, rows_of_records, last_records}
+use Rattle.tt_commands.specs.Session.{OpenSession, state_in, with_database, with_latest_if, with_stamp_if}
 use Rattle.tt_commands.specs.Answers.{Answered}
 use Rattle.tt_commands.specs.Room.{has_no_room_to_end, full_by_repair, refusal_in_session, CanEnd}
 use Rattle.tt_commands.specs.Invariants.{IsOpenSession, RequestsKeepSessionsSound}
@@ -50,9 +53,10 @@ use Rattle.tt_commands.specs.ToldRequests.{forgotten_in, asks_for_forgotten, rea
 use Rattle.tt_requests.specs.ToldEdits.{own_edit}
 use Rattle.tt_commands.specs.Changes.{forgotten_by}
 use Rattle.tt_commands.specs.Forgetting.{forgetting_of, forget_refusal, forgets_nothing, forgotten_answer, forget}
-use Rattle.tt_commands.specs.Commands.{write, written, carried_out, moved_to, unless_moved, outcome_of_request}
+use Rattle.tt_commands.specs.Commands.{stamped, write, written, carried_out, moved_to, unless_moved, outcome_of_request}
 use Rattle.tt_requests.specs.Asked.{repair_worker_told}
 use Rattle.tt_commands.proofs.StepLemmas.{accepted_in_session, can_end, room-can_end, switch_is_accepted, abort_is_accepted}
+use Rattle.tt_commands.proofs.RecordLemmas.{few_last, few_rows-last}
 use Rattle.tt_commands.proofs.ForgettingLemmas.{from_forget, forgotten-sound}
 use Rattle.tt_commands.proofs.LawLemmas.{HasLegalHistory, legal-push, IsStepped, is_stepped}
 
@@ -142,6 +146,7 @@ sound-next db next n records most sound is catalog limits = record {
   numbered = sound.numbered;
   few_records = sound.few_records;
   few_kept = sound.few_kept;
+  few_rows = sound.few_rows;
 }
 
 pub sound-accepted : (db next : Database) (n : Numbering) (records : List Record) (most worker : ℕ) (event : Event) → IsSound db n records most → refusal_in_session db event ≡ None
@@ -188,24 +193,38 @@ sound-stepped db before next n records most count sound is catalog limits =
 same : (session : OpenSession) → IsOpenSession session → GoesOn session session
 same session sound = record { catalog = refl; limits = refl; sound = sound }
 
-pub few_last : (most : ℕ) (records : List Record) → length (last_items most records) ≤ most
-few_last most records = omega (arith, length-drop (length records - most) records)
+-- with the last of some records, as many as may be kept
+pub kept-sound : (db : Database) (n : Numbering) (before records kept : List Record) (earlier most : ℕ) → IsSound db n before earlier → most ≤ max_records → kept ≡ last_records most records
+    → IsSound db n kept most
+kept-sound db n before records kept earlier most sound few is = record {
+  catalog = sound.catalog;
+  fits = sound.fits;
+  edits = sound.edits;
+  legal = sound.legal;
+  room = sound.room;
+  numbered = sound.numbered;
+  few_records = subst (λ (l : List Record). length l ≤ most) (sym is) (few_last most records);
+  few_kept = few;
+  few_rows = subst (λ (l : List Record). rows_of_records l ≤ max_record_rows) (sym is) (few_rows-last most records);
+}
+
+-- with one more record, or as before where memory ran out
+pub put-sound : {X E : Type 0} (r : Result X E) (db : Database) (n : Numbering) (records kept : List Record) (latest : Record) (most : ℕ) → IsSound db n records most
+    → OnOk r (kept ≡ last_records most (records ++ latest ∷ [])) → OnErr r (kept ≡ records) → IsSound db n kept most
+put-sound (Ok x) db n records kept latest most sound put stays = kept-sound db n records (records ++ latest ∷ []) kept most most sound sound.few_kept put
+put-sound (Err e) db n records kept latest most sound put stays = subst (λ (l : List Record). IsSound db n l most) (sym stays) sound
 
 with_latest-sound : (session : OpenSession) (latest : Record) → IsOpenSession session → GoesOn session (with_latest_if session (Some latest))
 with_latest-sound session latest sound = record {
   catalog = refl;
   limits = refl;
-  sound = record {
-    catalog = sound.catalog;
-    fits = sound.fits;
-    edits = sound.edits;
-    legal = sound.legal;
-    room = sound.room;
-    numbered = sound.numbered;
-    few_records = few_last session.most_records (session.records ++ latest ∷ []);
-    few_kept = sound.few_kept;
-  };
+  sound = kept-sound session.database session.numbering session.records (session.records ++ latest ∷ []) (last_records session.most_records (session.records ++ latest ∷ []))
+      session.most_records session.most_records sound sound.few_kept refl;
 }
+
+with_stamp-sound : (session : OpenSession) (stamp : Option StampedSlot) → IsOpenSession session → GoesOn session (with_stamp_if session stamp)
+with_stamp-sound session None sound = same session sound
+with_stamp-sound session (Some s) sound = record { catalog = refl; limits = refl; sound = sound }
 
 -- the database is another one, with the same tables and limits
 next-sound : (session : OpenSession) (next : Database) → IsOpenSession session → IsNext next → next.catalog ≡ session.database.catalog → next.limits ≡ session.database.limits
@@ -237,14 +256,16 @@ from_ok a b is = cc
 told : (session : OpenSession) (answer : Answer) → IsOpenSession session → AnswersOn session (Ok (record { answer = answer; session = session }))
 told session answer sound b is = to session _ b (from_ok (record { answer = answer; session = session }) b is) (same session sound)
 
-write-on : (session : OpenSession) (worker : ℕ) (action : Action) → IsOpenSession session → AnswersOn session (write session worker action)
-write-on session worker action sound b is =
+write-on : (session : OpenSession) (worker : ℕ) (action : Action) (stamp : Option ℕ) → IsOpenSession session → AnswersOn session (write session worker action stamp)
+write-on session worker action stamp sound b is =
     let db = session.database in
     let next = with_event db worker (events.Write action) in
-    let parts = from_unless (refusal_in_session db (events.Write action)) (written session worker action) b is in
+    let parts = from_unless (refusal_in_session db (events.Write action)) (written session worker action stamp) b is in
     let on = next-sound session next sound (accepted db worker (events.Write action) sound.legal parts.0) refl refl in
     let latest : Record = record { call = session.calls; worker = worker; what = whats.Write (now_in db + 1) (replies_of action (current_of_db db (now_in db))) } in
-    to session (written session worker action) b parts.1 (onwards session (with_database session next) _ on (λ s. with_latest-sound (with_database session next) latest s))
+    let recorded = with_latest_if (with_database session next) (Some latest) in
+    let on_record = onwards session (with_database session next) recorded on (λ s. with_latest-sound (with_database session next) latest s) in
+    to session (written session worker action stamp) b parts.1 (onwards session recorded _ on_record (λ s. with_stamp-sound recorded (stamped (now_in db + 1) stamp) s))
 
 begin-on : (session : OpenSession) (worker : ℕ) (edits : List Edit) → IsOpenSession session → AnswersOn session (begin session worker edits)
 begin-on session worker edits sound b is =
@@ -359,7 +380,7 @@ forget-on session time sound b is =
     go false behind = record { catalog = refl; limits = refl; sound = behind }
 
 carried_out-on : (session : OpenSession) (worker : ℕ) (command : Command) → IsOpenSession session → AnswersOn session (carried_out session worker command)
-carried_out-on session worker (commands.Write action) sound = write-on session worker action sound
+carried_out-on session worker (commands.Write action stamp) sound = write-on session worker action stamp sound
 carried_out-on session worker (commands.Read q at generation page) sound = read-as-told-on session worker q generation at page sound
 carried_out-on session worker (commands.Preview q page) sound = previewed-on session page (right_preview_of session.database q) sound
 carried_out-on session worker (commands.Begin told) sound = begin-as-told-on session worker told sound
@@ -367,7 +388,7 @@ carried_out-on session worker (commands.Step most told) sound = step-on session 
 carried_out-on session worker (commands.Finish told) sound = finish-on session worker sound
 carried_out-on session worker (commands.Abort told) sound = abort-on session worker sound
 carried_out-on session worker commands.Status sound = told session _ sound
-carried_out-on session worker (commands.Slots from to by row) sound = told session _ sound
+carried_out-on session worker (commands.Slots from to filter) sound = told session _ sound
 carried_out-on session worker (commands.Changes page) sound = told session _ sound
 carried_out-on session worker (commands.NextChanges page) sound = next_changes-on session page sound
 carried_out-on session worker commands.Tables sound = told session _ sound

@@ -204,9 +204,9 @@ begun-error session told error a sound judged is =
 
 error-of : (session : OpenSession) (worker : ℕ) (command : Command) (error : DbError) → IsOpenSession session → IsJudged session.database.catalog command
     → carried_out session worker command ≡ Err (refusals.Event error) → answers_lines error ≡ true
-error-of session worker (commands.Write action) error sound judged is =
+error-of session worker (commands.Write action stamp) error sound judged is =
     let db = session.database in
-    write-error (action_fault db.catalog action.writes) _ _ _ _ _ _ error judged (refusal-is (refusal_in_session db (events.Write action)) (written session worker action) error is)
+    write-error (action_fault db.catalog action.writes) _ _ _ _ _ _ error judged (refusal-is (refusal_in_session db (events.Write action)) (written session worker action stamp) error is)
 error-of session worker (commands.Begin told) error sound judged is =
     begun-error session told error _ sound judged (missing-is (missing_if_idle session told.edits) _ error is)
 error-of session worker (commands.Read q at generation page) error sound judged is = read-as-told-error session worker q generation at page error is
@@ -216,7 +216,7 @@ error-of session worker (commands.Finish told) error sound judged is = idle-erro
 error-of session worker (commands.Abort told) error sound judged is = idle-error (state_in session).phase _ error is
 error-of session worker (commands.NextChanges page) error sound judged is = idle-error (state_in session).phase _ error is
 error-of session worker commands.Status error sound judged is = cc
-error-of session worker (commands.Slots from to by row) error sound judged is = cc
+error-of session worker (commands.Slots from to filter) error sound judged is = cc
 error-of session worker (commands.Changes page) error sound judged is = cc
 error-of session worker commands.Tables error sound judged is = cc
 error-of session worker (commands.Why generation page) error sound judged is =

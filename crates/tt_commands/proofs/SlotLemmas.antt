@@ -4,7 +4,6 @@ use Rattle.std.proofs.lemmas.Bool.Decides.{nat_tests}
 use Rattle.std.specs.Prelude.{filter_map, option_map, option_and_then}
 use Rattle.std.specs.List.{range_with_len, cons_option}
 use Rattle.std.specs.Option.{option_to_list}
-use Rattle.tt_values.specs.declared.row_id.RowId.{RowId}
 use Rattle.tt_values.specs.declared.action.Action.{Action}
 use Rattle.tt_values.specs.RowWrites.{Slots}
 use Rattle.tt_generations.specs.declared.slot.Slot.{Slot}
@@ -14,7 +13,9 @@ use Rattle.tt_db.specs.declared.event.Event.TheVariants as events
 use Rattle.tt_db.specs.declared.event.Entry.{Entry}
 use Rattle.tt_db.specs.Database.{Database, nth_item, now_in, slot_of, place_of, current_slots}
 use Rattle.tt_db.specs.History.{write_places}
+use Rattle.tt_requests.specs.declared.request.SlotFilter.{SlotFilter}
 use Rattle.tt_answers.specs.declared.answer.SlotEntry.{SlotEntry}
+use Rattle.tt_commands.specs.Session.{OpenSession, stamp_of}
 use Rattle.tt_commands.specs.SlotEntries.{Asked, asked_for, action_of, asked_by, asked_in, asked_action, slot_entry, entry_of_slot, if_asked_for, asked_entry, slot_entries}
 
 -- ---- what was asked for
@@ -81,24 +82,24 @@ entry_action_asked db number p place e is there entry =
     asked-nth db.history number ∙ ap (asked_at db.history) (sym is ∙ there) ∙ ap (option_and_then asked_of) entry in
     sym (ap (option_map (λ (a : Asked). a.action)) asked ∙ action-asked e.worker (action_of e.event))
 
-no_slot_entry : (number : ℕ) (slot : Option Slot) → None ≡ option_and_then (λ s. option_map (slot_entry number s) None) slot
-no_slot_entry number None = refl
-no_slot_entry number (Some slot) = refl
+no_slot_entry : (number : ℕ) (stamp : Option ℕ) (slot : Option Slot) → None ≡ option_and_then (λ s. option_map (slot_entry number stamp s) None) slot
+no_slot_entry number stamp None = refl
+no_slot_entry number stamp (Some slot) = refl
 
 -- nothing is told of a slot for which nothing was asked
-pub none_asked : (db : Database) (number : ℕ) (place : Option ℕ) → place ≡ place_of db number → asked_at db.history place ≡ None → None ≡ entry_of_slot db number
-none_asked db number place is none =
+pub none_asked : (db : Database) (number : ℕ) (stamp : Option ℕ) (place : Option ℕ) → place ≡ place_of db number → asked_at db.history place ≡ None → None ≡ entry_of_slot db number stamp
+none_asked db number stamp place is none =
     let asked : nth_item (asked_in db.history) number ≡ None = asked-nth db.history number ∙ ap (asked_at db.history) (sym is) ∙ none in
-    no_slot_entry number (slot_of db number) ∙ ap (λ a. option_and_then (λ s. option_map (slot_entry number s) a) (slot_of db number)) (sym asked)
+    no_slot_entry number stamp (slot_of db number) ∙ ap (λ a. option_and_then (λ s. option_map (slot_entry number stamp s) a) (slot_of db number)) (sym asked)
 
 -- what is told of a slot
-pub entry_asked : (db : Database) (number p : ℕ) (place : Option ℕ) (e : Entry) (action : Action) (slot : Slot) → place ≡ place_of db number → place ≡ Some p
+pub entry_asked : (db : Database) (number p : ℕ) (stamp : Option ℕ) (place : Option ℕ) (e : Entry) (action : Action) (slot : Slot) → place ≡ place_of db number → place ≡ Some p
     → nth_item db.history p ≡ Some e → action_of e.event ≡ Some action → slot_of db number ≡ Some slot
-    → Some (slot_entry number slot (asked_for e.worker action)) ≡ entry_of_slot db number
-entry_asked db number p place e action slot is there entry asks slot_is =
+    → Some (slot_entry number stamp slot (asked_for e.worker action)) ≡ entry_of_slot db number stamp
+entry_asked db number p stamp place e action slot is there entry asks slot_is =
     let asked : nth_item (asked_in db.history) number ≡ Some (asked_for e.worker action) =
     asked-nth db.history number ∙ ap (asked_at db.history) (sym is ∙ there) ∙ ap (option_and_then asked_of) entry ∙ ap (option_map (asked_for e.worker)) asks in
-    sym ((λ i. option_and_then (λ s. option_map (slot_entry number s) (asked i)) (slot_is i)))
+    sym ((λ i. option_and_then (λ s. option_map (slot_entry number stamp s) (asked i)) (slot_is i)))
 
 -- ---- the slots from one number to another
 
@@ -109,42 +110,42 @@ no_slot_past W (suc n) past =
     let test : nat_lt n (length W) ≡ false = grind (arith, nat_tests, past) in
     ap (λ b. if b then Some (slot_with_replies W n) else None) test
 
-no_entry_past : (db : Database) (worker : Option ℕ) (row : Option RowId) (number : ℕ) → now_in db < number → asked_entry db worker row number ≡ None
-no_entry_past db worker row number past =
-    ap (λ s. option_and_then (if_asked_for db worker row) (option_and_then (λ slot. option_map (slot_entry number slot) (nth_item (asked_in db.history) number)) s))
-    (no_slot_past (current_slots db) number past)
+no_entry_past : (session : OpenSession) (filter : SlotFilter) (number : ℕ) → now_in session.database < number → asked_entry session filter number ≡ None
+no_entry_past session filter number past =
+    ap (λ s. option_and_then (if_asked_for session.database filter) (option_and_then (λ slot. option_map (slot_entry number (stamp_of session number) slot) (nth_item (asked_in session.database.history) number)) s))
+    (no_slot_past (current_slots session.database) number past)
 
-no_entries_past : (db : Database) (worker : Option ℕ) (row : Option RowId) (number count : ℕ) → now_in db < number
-    → filter_map (asked_entry db worker row) (range_with_len number count) ≡ []
-no_entries_past db worker row number zero past = refl
-no_entries_past db worker row number (suc count) past =
-    ap (λ o. cons_option o (filter_map (asked_entry db worker row) (range_with_len (number + 1) count))) (no_entry_past db worker row number past)
-    ∙ no_entries_past db worker row (number + 1) count (omega (arith, past))
+no_entries_past : (session : OpenSession) (filter : SlotFilter) (number count : ℕ) → now_in session.database < number
+    → filter_map (asked_entry session filter) (range_with_len number count) ≡ []
+no_entries_past session filter number zero past = refl
+no_entries_past session filter number (suc count) past =
+    ap (λ o. cons_option o (filter_map (asked_entry session filter) (range_with_len (number + 1) count))) (no_entry_past session filter number past)
+    ∙ no_entries_past session filter (number + 1) count (omega (arith, past))
 
 -- nothing is told of slots behind the last one
-pub entries-past : (db : Database) (from to : ℕ) (worker : Option ℕ) (row : Option RowId) → now_in db < from → slot_entries db from to worker row ≡ []
-entries-past db from to worker row past = no_entries_past db worker row from (to + 1 - from) past
+pub entries-past : (session : OpenSession) (from to : ℕ) (filter : SlotFilter) → now_in session.database < from → slot_entries session from to filter ≡ []
+entries-past session from to filter past = no_entries_past session filter from (to + 1 - from) past
 
 -- nothing is told where there are no numbers
-pub entries-none : (db : Database) (from to : ℕ) (worker : Option ℕ) (row : Option RowId) → to < from → slot_entries db from to worker row ≡ []
-entries-none db from to worker row none =
+pub entries-none : (session : OpenSession) (from to : ℕ) (filter : SlotFilter) → to < from → slot_entries session from to filter ≡ []
+entries-none session from to filter none =
     let no_numbers : to + 1 - from ≡ 0 = omega (arith, none) in
-    ap (λ n. filter_map (asked_entry db worker row) (range_with_len from n)) no_numbers
+    ap (λ n. filter_map (asked_entry session filter) (range_with_len from n)) no_numbers
 
 -- one number, and then the others
-pub entries-next : (db : Database) (from to : ℕ) (worker : Option ℕ) (row : Option RowId) → from ≤ to
-    → slot_entries db from to worker row ≡ cons_option (asked_entry db worker row from) (slot_entries db (from + 1) to worker row)
-entries-next db from to worker row some =
+pub entries-next : (session : OpenSession) (from to : ℕ) (filter : SlotFilter) → from ≤ to
+    → slot_entries session from to filter ≡ cons_option (asked_entry session filter from) (slot_entries session (from + 1) to filter)
+entries-next session from to filter some =
     let more : to + 1 - from ≡ suc (to + 1 - (from + 1)) = omega (arith, some) in
-    ap (λ n. filter_map (asked_entry db worker row) (range_with_len from n)) more
+    ap (λ n. filter_map (asked_entry session filter) (range_with_len from n)) more
 
 -- the slots that are left are none at the end
-pub entries-end : (db : Database) (number to : ℕ) (worker : Option ℕ) (row : Option RowId) → min to (now_in db) < number → slot_entries db number to worker row ≡ []
-entries-end db number to worker row past = by (nat_lt to number) refl
+pub entries-end : (session : OpenSession) (number to : ℕ) (filter : SlotFilter) → min to (now_in session.database) < number → slot_entries session number to filter ≡ []
+entries-end session number to filter past = by (nat_lt to number) refl
   where
-    by : (b : Bool) → nat_lt to number ≡ b → slot_entries db number to worker row ≡ []
-    by true is = let none : to < number = grind (arith, nat_tests, is) in entries-none db number to worker row none
-    by false is = let some : number ≤ to = grind (arith, nat_tests, is) in entries-past db number to worker row (omega (arith, past, some))
+    by : (b : Bool) → nat_lt to number ≡ b → slot_entries session number to filter ≡ []
+    by true is = let none : to < number = grind (arith, nat_tests, is) in entries-none session number to filter none
+    by false is = let some : number ≤ to = grind (arith, nat_tests, is) in entries-past session number to filter (omega (arith, past, some))
 
 -- the entries so far, with that of one number more
 pub entries-push : {X : Type 0} (entries whole rest : List X) (o : Option X) → entries ++ cons_option o rest ≡ whole → (entries ++ option_to_list o) ++ rest ≡ whole

@@ -1,5 +1,5 @@
 -- A session that forgets what lies before a time.
-use Rattle.std.specs.Prelude.{ℕ, ◌==◌, ◌&&◌, ◌||◌, nat_lt, nat_le, Bool, length, Option, None, Some, Result, Ok, Err, if◌then◌else◌}
+use Rattle.std.specs.Prelude.{ℕ, ◌-◌, drop, ◌==◌, ◌&&◌, ◌||◌, nat_lt, nat_le, Bool, length, Option, None, Some, Result, Ok, Err, if◌then◌else◌}
 use Rattle.tt_generations.specs.TwoGenerations.{is_repairing}
 use Rattle.tt_db.specs.declared.errors.DbError.TheVariants as errors
 use Rattle.tt_db.specs.declared.errors.ReadError.TheVariants as read_errors
@@ -25,7 +25,13 @@ abbrev pub forgetting_of : OpenSession → ToldTime → Forgetting
 forgetting_of session time =
     let own = own_time session.numbering time in
     let size = length (ground_of session.database own) in
-    record { db = forgotten_db session.database own; time = own; ground_slots = size; numbering = numbering_behind session time size }
+    record {
+      db = forgotten_db session.database own;
+      time = own;
+      ground_slots = size;
+      numbering = numbering_behind session time size;
+      stamps = drop (own - session.numbering.ground_slots) session.stamps;
+    }
 
 -- why a session doesn't forget, memory aside
 abbrev pub forget_refusal : OpenSession → ToldTime → Option Refusal

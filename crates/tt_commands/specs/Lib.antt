@@ -1,3 +1,4 @@
+pub mod Records
 pub mod Session
 pub mod Failures
 pub mod Answers
@@ -8,6 +9,7 @@ pub mod Reading
 pub mod Readings
 pub mod Repairing
 pub mod Changes
+pub mod Stamps
 pub mod Forgetting
 pub mod ToldRequests
 pub mod SlotEntries

@@ -1,5 +1,5 @@
 -- What a session tells of slots: who asked for what, and what became of it in the current generation.
-use Rattle.std.specs.Prelude.{ℕ, ◌+◌, ◌-◌, ◌==◌, ◌&&◌, not, Bool, true, false, List, Option, None, Some, option_map, option_and_then, if◌then◌else◌}
+use Rattle.std.specs.Prelude.{ℕ, ◌+◌, ◌-◌, ◌==◌, ◌&&◌, nat_le, not, Bool, true, false, List, Option, None, Some, option_map, option_and_then, if◌then◌else◌}
 use Rattle.std.specs.List.{filter_map, range_with_len}
 use Rattle.tt_values.specs.declared.row.Row.{Row}
 use Rattle.tt_values.specs.declared.row_id.RowId.{RowId}
@@ -10,7 +10,10 @@ use Rattle.tt_db.specs.declared.event.Event.{Event}
 use Rattle.tt_db.specs.declared.event.Event.TheVariants as events
 use Rattle.tt_db.specs.declared.event.Entry.{Entry}
 use Rattle.tt_db.specs.Database.{Database, nth_item, row_in, slot_of}
+use Rattle.tt_requests.specs.declared.request.SlotFilter.{SlotFilter}
+use Rattle.tt_requests.specs.declared.request.StampRange.{StampRange}
 use Rattle.tt_answers.specs.declared.answer.SlotEntry.{SlotEntry}
+use Rattle.tt_commands.specs.Session.{OpenSession, stamp_of}
 
 -- an action as it was asked for, and the worker that did
 pub record Asked : Type 0 where
@@ -46,14 +49,13 @@ abbrev pub if_replaced : Action → Option Action → Option Action
 if_replaced asked None = Some asked
 if_replaced asked (Some action) = if is_same_action asked action then None else Some asked
 
--- a slot by its number, with what was asked for
-abbrev pub slot_entry : ℕ → Slot → Asked → SlotEntry
-slot_entry number slot asked = record { number = number; worker = asked.worker; slot = slot; asked = if_replaced asked.action slot.action }
+-- a slot by its number, with its stamp and what was asked for
+abbrev pub slot_entry : ℕ → Option ℕ → Slot → Asked → SlotEntry
+slot_entry number stamp slot asked = record { number = number; worker = asked.worker; stamp = stamp; slot = slot; asked = if_replaced asked.action slot.action }
 
--- the slot of a number, if it is there
-abbrev pub entry_of_slot : Database → ℕ → Option SlotEntry
-entry_of_slot db number =
-    option_and_then (λ slot. option_map (slot_entry number slot) (nth_item (asked_in db.history) number)) (slot_of db number)
+-- the slot of a number and of a stamp, if it is there
+abbrev pub entry_of_slot : Database → ℕ → Option ℕ → Option SlotEntry
+entry_of_slot db number stamp = option_and_then (λ slot. option_map (slot_entry number stamp slot) (nth_item (asked_in db.history) number)) (slot_of db number)
 
 -- the numbers from one to another, both among them
 abbrev pub numbers_between : ℕ → ℕ → List ℕ
@@ -76,14 +78,24 @@ abbrev pub changes_row : Database → Option RowId → ℕ → Bool
 changes_row db None number = true
 changes_row db (Some row) number = not (is_unchanged (row_in db row (number - 1)) (row_in db row number))
 
--- what is told of a slot, if it is one of the worker and changes the row, where these are asked for
-abbrev pub if_asked_for : Database → Option ℕ → Option RowId → SlotEntry → Option SlotEntry
-if_asked_for db worker row e = if is_asked_for worker e.worker && changes_row db row e.number then Some e else None
+-- whether a stamp, if there is one, lies within the range that is asked for, if one is
+abbrev pub is_stamped_within : Option StampRange → Option ℕ → Bool
+is_stamped_within None stamp = true
+is_stamped_within (Some range) None = false
+is_stamped_within (Some range) (Some stamp) = nat_le range.low stamp && nat_le stamp range.high
+
+-- whether a slot is one of the worker, has a stamp in the range and changes the row, where these are asked for
+abbrev pub passes : Database → SlotFilter → SlotEntry → Bool
+passes db filter e = is_asked_for filter.worker e.worker && (is_stamped_within filter.stamps e.stamp && changes_row db filter.row e.number)
+
+-- what is told of a slot, if it passes
+abbrev pub if_asked_for : Database → SlotFilter → SlotEntry → Option SlotEntry
+if_asked_for db filter e = if passes db filter e then Some e else None
 
 -- what is told of the slot of a number, if it is there and asked for
-abbrev pub asked_entry : Database → Option ℕ → Option RowId → ℕ → Option SlotEntry
-asked_entry db worker row number = option_and_then (if_asked_for db worker row) (entry_of_slot db number)
+abbrev pub asked_entry : OpenSession → SlotFilter → ℕ → Option SlotEntry
+asked_entry session filter number = option_and_then (if_asked_for session.database filter) (entry_of_slot session.database number (stamp_of session number))
 
--- the slots from one number to another, of a worker and with changes of a row where these are asked for
-abbrev pub slot_entries : Database → ℕ → ℕ → Option ℕ → Option RowId → List SlotEntry
-slot_entries db from to worker row = filter_map (asked_entry db worker row) (numbers_between from to)
+-- the slots from one number to another that are asked for
+abbrev pub slot_entries : OpenSession → ℕ → ℕ → SlotFilter → List SlotEntry
+slot_entries session from to filter = filter_map (asked_entry session filter) (numbers_between from to)

@@ -51,7 +51,7 @@ fn carried_out(
     ensures reads { is_read_only command ≡ true → session.new ≡ session.old }
 {
     match command {
-        Command::Write(action) => write(session, worker, action),
+        Command::Write { action, stamp } => write(session, worker, action, stamp),
         Command::Read {
             select,
             at,
@@ -64,12 +64,7 @@ fn carried_out(
         Command::Finish { .. } => finish(session, worker),
         Command::Abort { .. } => abort(session, worker),
         Command::Status => status(session),
-        Command::Slots {
-            from,
-            to,
-            worker: by,
-            row,
-        } => slots(session, from, to, by, row),
+        Command::Slots { from, to, filter } => slots(session, from, to, filter),
         Command::Changes(page) => changes(session, page),
         Command::NextChanges(page) => next_changes(session, page),
         Command::Tables => declared_tables(session),

@@ -59,16 +59,17 @@ fn forgetting(session: &OpenSession, time: ToldTime) -> Result<Forgetting, Alloc
     let numbering = session.numbering();
     let generation = numbering.told_generation(session.db().generation());
     let own = numbering.own_time(time);
-    match forgotten(session.alloc(), session.db(), own) {
-        Ok(Forgotten { db, ground_slots }) => Ok(Forgetting {
-            db,
-            time: own,
-            ground_slots,
-            numbering: Numbering::behind(time, ground_slots, generation),
-        }),
+    let Ok(Forgotten { db, ground_slots }) = forgotten(session.alloc(), session.db(), own) else {
         // It isn't refused, so there is no memory.
-        Err(_) => Err(AllocError),
-    }
+        return Err(AllocError);
+    };
+    Ok(Forgetting {
+        db,
+        time: own,
+        ground_slots,
+        numbering: Numbering::behind(time, ground_slots, generation),
+        stamps: session.stamps_behind(own)?,
+    })
 }
 
 /// What lies before a time is forgotten, and the session tells how it stands. Returns the answer,

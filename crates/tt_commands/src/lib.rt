@@ -18,6 +18,7 @@ mod response;
 mod room;
 mod session_change;
 mod slot_entries;
+mod stamps;
 mod terms;
 mod told_requests;
 mod trial;
@@ -29,7 +30,8 @@ pub use forgetting::outcome_of_forget;
 pub use open_session::OpenSession;
 pub use repairing::status_of;
 pub use response::Response;
-pub use session_change::{BoxedForgetting, Forgetting, SessionChange};
+pub use session_change::{BoxedForgetting, Forgetting, SessionChange, StampedSlot};
+pub use stamps::Stamps;
 pub use terms::Terms;
 
 // An opening asks for no more closed generations than a database keeps.

@@ -1,7 +1,7 @@
 //! A session that is open.
-ghost use Rattle.std.specs.Prelude.{◌≡◌, ◌+◌, ◌<◌, ◌≤◌, ◌-◌, ◌^◌, true, false, length, OnOk, OnErr, IfOk};
+ghost use Rattle.std.specs.Prelude.{◌≡◌, ◌+◌, ◌<◌, ◌≤◌, ◌-◌, ◌^◌, true, false, drop, length, OnOk, OnErr, IfOk};
 ghost use Rattle.tt_requests.specs.Opening.{max_keep, max_records};
-ghost use Rattle.tt_commands.specs.Session.{counted, opened, terms_of, with_database, with_latest_if};
+ghost use Rattle.tt_commands.specs.Session.{counted, opened, stamp_of, terms_of, with_database, with_latest_if, with_stamp_if};
 ghost use Rattle.tt_commands.specs.Changes.{forgotten_by, with_change};
 ghost use Rattle.tt_commands.specs.Invariants.{IsOpenSession};
 ghost use Rattle.tt_commands.specs.Session.{reopened_by, with_most_records};
@@ -10,7 +10,8 @@ ghost use Rattle.tt_commands.specs.Grounds.{opened_on};
 mod advancing;
 
 use crate::records::Records;
-use crate::session_change::{BoxedForgetting, Forgetting, SessionChange};
+use crate::session_change::{BoxedForgetting, Forgetting, SessionChange, StampedSlot};
+use crate::stamps::Stamps;
 use crate::terms::Terms;
 use std::alloc::{AllocError, Global};
 use std::marker::Model;
@@ -18,12 +19,13 @@ use tt_db::{Db, Limits};
 use tt_records::Record;
 use tt_requests::{LogOpening, Numbering, Opening};
 
-/// A session that is open: its database, how its numbers are told, and the records of its last
-/// calls.
+/// A session that is open: its database, how its numbers are told, the stamps of its slots, and the
+/// records of its last calls.
 pub struct OpenSession {
     alloc: Global,
     db: Db,
     numbering: Numbering,
+    stamps: Stamps,
     records: Records,
     /// How many records are kept at most.
     most_records: u32,
@@ -42,6 +44,7 @@ impl Model for OpenSession {
     ghost view = { λ s. record {
       database = s.db;
       numbering = s.numbering;
+      stamps = s.stamps;
       records = s.records;
       most_records = s.most_records;
       calls = s.calls;
@@ -58,6 +61,7 @@ impl Drop for OpenSession {
             alloc: _,
             db: _,
             numbering: _,
+            stamps: _,
             records: _,
             most_records: _,
             calls: _,
@@ -89,6 +93,7 @@ impl OpenSession {
             alloc,
             db,
             numbering: Numbering::new(),
+            stamps: Stamps::new(alloc),
             records: Records::new(alloc),
             most_records: records,
             calls: 0,
@@ -127,6 +132,28 @@ impl OpenSession {
         ensures { result ≡ self.now.numbering }
     {
         self.numbering
+    }
+
+    /// The stamp of a slot of the database, if it is behind the ground and has one.
+    pub fn stamp_of(&self, slot: u64) -> Option<u64>
+        ensures { result ≡ stamp_of self.now slot }
+    {
+        self.stamps.get(self.place_of(slot))
+    }
+
+    /// The place of a slot of the database behind the ground, from 1, and 0 if it isn't behind it.
+    fn place_of(&self, slot: u64) -> u64
+        ensures { result ≡ slot - self.now.numbering.ground_slots }
+    {
+        slot.saturating_sub(self.numbering.ground_slots())
+    }
+
+    /// The stamps of the slots behind a time of the database.
+    pub(crate) fn stamps_behind(&self, time: u64) -> Result<Stamps, AllocError>
+        ensures { IfOk result (λ stamps.
+            stamps ≡ drop (time - self.now.numbering.ground_slots) self.now.stamps) }
+    {
+        self.stamps.behind(self.alloc, self.place_of(time))
     }
 
     /// The records of the last calls.
@@ -206,7 +233,7 @@ impl OpenSession {
         ensures stays { OnErr result (self.new ≡ self.old) }
     {
         match change {
-            SessionChange::Latest(latest) => self.keep(latest),
+            SessionChange::Latest { record, stamped } => self.keep(record, stamped),
             SessionChange::Forgetting(forgetting) => {
                 self.go_on_behind(forgetting);
                 Ok(())
@@ -214,9 +241,33 @@ impl OpenSession {
         }
     }
 
+    /// Keeps the record of the last call and the stamp of its slot, if there are any. Where memory
+    /// runs out, the session is as before.
+    fn keep(
+        &mut self,
+        latest: Option<Record>,
+        stamped: Option<StampedSlot>,
+    ) -> Result<(), AllocError>
+        ensures session { OnOk result
+            (self.new ≡ with_stamp_if (with_latest_if self.old latest) stamped) }
+        ensures stays { OnErr result (self.new ≡ self.old) }
+    {
+        let Some(StampedSlot { slot, stamp }) = stamped else {
+            return self.keep_record(latest);
+        };
+        let place = self.place_of(slot);
+        let len = self.stamps.len();
+        self.stamps.put(place, stamp)?;
+        let kept = self.keep_record(latest);
+        if kept.is_err() {
+            self.stamps.truncate(len);
+        }
+        kept
+    }
+
     /// Keeps the record of the last call, if there is one. Where memory runs out, the session is as
     /// before.
-    fn keep(&mut self, latest: Option<Record>) -> Result<(), AllocError>
+    fn keep_record(&mut self, latest: Option<Record>) -> Result<(), AllocError>
         ensures session { OnOk result (self.new ≡ with_latest_if self.old latest) }
         ensures stays { OnErr result (self.new ≡ self.old) }
     {
@@ -235,10 +286,12 @@ impl OpenSession {
             time,
             ground_slots,
             numbering,
+            stamps,
         } = forgetting.into_inner();
         self.records.forget_before(time, ground_slots);
         self.db = db;
         self.numbering = numbering;
+        self.stamps = stamps;
     }
 
     /// Goes on with another database, with which the session is sound. Takes no memory.

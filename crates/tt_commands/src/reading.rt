@@ -1,5 +1,5 @@
 //! Selects and previews.
-ghost use Rattle.std.specs.Prelude.{◌≡◌, IfOk, unwrap_or};
+ghost use Rattle.std.specs.Prelude.{◌≡◌, None, IfOk, unwrap_or};
 ghost use Rattle.tt_db.specs.Database.{state_of};
 ghost use Rattle.tt_commands.specs.Answers.{Becomes};
 ghost use Rattle.tt_commands.specs.Reading.{last_time_in, asks_for_all, latest_if, read, preview};
@@ -72,7 +72,7 @@ fn selected(
         ≡ Answer.Selected reading.time (page_of_reply (page_after after) reply)) }
     ensures change { IfOk result (λ response. response.change
         ≡ SessionChange.Latest (latest_if (asks_for_all reading.generation (page_after after))
-        session.now reading.worker (What.Read reading.select reading.time reply))) }
+        session.now reading.worker (What.Read reading.select reading.time reply)) None) }
 {
     let Reading {
         worker,
@@ -97,7 +97,10 @@ fn selected(
     };
     Ok(Response {
         answer,
-        change: SessionChange::Latest(Some(latest)),
+        change: SessionChange::Latest {
+            record: Some(latest),
+            stamped: None,
+        },
     })
 }
 

@@ -1,7 +1,7 @@
 //! The records of the last calls.
-ghost use Rattle.std.specs.Prelude.{◌≡◌, ◌≤◌, ◌++◌, ◌∷◌, [], length, slice_get, Some, None, if◌then◌else◌, OnOk, OnErr};
+ghost use Rattle.std.specs.Prelude.{◌≡◌, ◌≤◌, ◌++◌, ◌∷◌, [], length, drop, slice_get, Some, None, if◌then◌else◌, OnOk, OnErr};
 ghost use Rattle.std.specs.Option.{option_copied};
-ghost use Rattle.tt_db.specs.State.{last_items};
+ghost use Rattle.tt_commands.specs.Records.{last_records, rows_of_record, rows_of_records};
 ghost use Rattle.tt_commands.specs.Changes.{moved_what, moved_record, records_behind};
 ghost use Rattle.tt_commands.specs.ChangeEntries.{first_call};
 
@@ -9,20 +9,30 @@ use std::alloc::{AllocError, Global};
 use std::collections::VecDeque;
 use std::marker::Model;
 use tt_records::{Record, What};
+use tt_values::Reply;
+
+/// How many rows the records that are kept have together at most.
+const MAX_RECORD_ROWS: u64 = 1_000_000;
 
 /// Records of calls, the oldest first.
 #[derive(Drop)]
 pub(crate) struct Records {
     queue: VecDeque<Record>,
+    /// How many rows they have together.
+    rows: u64,
 }
 
 impl Model for Records {
-    ghost use Rattle.std.specs.Prelude.{List};
+    ghost use Rattle.std.specs.Prelude.{◌≡◌, ◌≤◌, List};
     ghost use Rattle.tt_records.specs.declared.record.Record.{Record};
+    ghost use Rattle.tt_commands.specs.Records.{max_record_rows, rows_of_records};
 
     ghost Value = { List Record };
 
     ghost view = { λ r. r.queue.items };
+
+    ghost invariant = { λ r. (r.rows ≡ rows_of_records r.queue.items)
+        × (r.rows ≤ max_record_rows) };
 }
 
 impl Records {
@@ -32,38 +42,44 @@ impl Records {
     {
         Records {
             queue: VecDeque::new(alloc),
+            rows: 0,
         }
     }
 
-    /// Adds the record of the latest call.
-    fn push(&mut self, latest: Record) -> Result<(), AllocError>
-        ensures ok { OnOk result (self.new ≡ self.old ++ latest ∷ []) }
+    /// Adds the record of the latest call, and keeps the latest records: at most this many, with at
+    /// most [`MAX_RECORD_ROWS`] rows. Where memory runs out, the records stay as they are.
+    pub(crate) fn put(&mut self, latest: Record, most: usize) -> Result<(), AllocError>
+        ensures ok { OnOk result (self.new ≡ last_records most (self.old ++ latest ∷ [])) }
         ensures err { OnErr result (self.new ≡ self.old) }
     {
+        let rows = rows_of_record(&latest);
+        if rows > MAX_RECORD_ROWS {
+            self.clear();
+            return Ok(());
+        }
         match self.queue.push_back(latest) {
-            Ok(()) => Ok(()),
+            Ok(()) => {
+                self.rows += rows;
+                keep_last(&mut self.queue, &mut self.rows, most);
+                Ok(())
+            }
             Err(_) => Err(AllocError),
         }
     }
 
-    /// Adds the record of the latest call, and keeps the latest records, at most this many. Where
-    /// memory runs out, the records stay as they are.
-    pub(crate) fn put(&mut self, latest: Record, most: usize) -> Result<(), AllocError>
-        ensures ok { OnOk result (self.new ≡ last_items most (self.old ++ latest ∷ [])) }
-        ensures err { OnErr result (self.new ≡ self.old) }
+    /// Keeps none of the records.
+    fn clear(&mut self)
+        ensures { self.new ≡ [] }
     {
-        self.push(latest)?;
-        self.keep_last(most);
-        Ok(())
+        self.queue.clear();
+        self.rows = 0;
     }
 
     /// Keeps the latest records, at most this many.
     pub(crate) fn keep_last(&mut self, most: usize)
-        ensures { self.new ≡ last_items most self.old }
+        ensures { self.new ≡ last_records most self.old }
     {
-        while self.queue.len() > most {
-            let _oldest = self.queue.pop_front();
-        }
+        keep_last(&mut self.queue, &mut self.rows, most);
     }
 
     /// Keeps the records that are still there behind a time, where the slots up to it have become a
@@ -76,8 +92,11 @@ impl Records {
             let Some(mut oldest) = self.queue.pop_front() else {
                 unreachable!()
             };
+            let rows = rows_of_record(&oldest);
             if move_record(&mut oldest, time, ground_slots) {
                 self.queue.push_back_reserved(oldest);
+            } else {
+                self.rows -= rows;
             }
         }
     }
@@ -104,6 +123,41 @@ impl Records {
             Some(first) => first.call,
             None => call,
         }
+    }
+}
+
+/// Keeps the latest of some records: at most this many, with at most [`MAX_RECORD_ROWS`] rows.
+fn keep_last(queue: &mut VecDeque<Record>, rows: &mut u64, most: usize)
+    requires { rows.old ≡ rows_of_records queue.old.items }
+    ensures records { queue.new.items ≡ last_records most queue.old.items }
+    ensures rows { rows.new ≡ rows_of_records queue.new.items }
+{
+    while queue.len() > most || *rows > MAX_RECORD_ROWS {
+        pop_oldest(queue, rows);
+    }
+}
+
+/// Lets the oldest record go, if there is one.
+fn pop_oldest(queue: &mut VecDeque<Record>, rows: &mut u64)
+    requires { rows.old ≡ rows_of_records queue.old.items }
+    ensures records { queue.new.items ≡ drop 1 queue.old.items }
+    ensures rows { rows.new ≡ rows_of_records queue.new.items }
+{
+    if let Some(oldest) = queue.pop_front() {
+        *rows -= rows_of_record(&oldest);
+    }
+}
+
+/// How many rows a record has: those that answered its select.
+fn rows_of_record(kept: &Record) -> u64
+    ensures { result ≡ rows_of_record kept.now }
+{
+    match &kept.what {
+        What::Read {
+            reply: Reply::Rows(rows),
+            ..
+        } => rows.len() as u64,
+        _ => 0,
     }
 }
 

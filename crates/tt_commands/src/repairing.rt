@@ -77,7 +77,7 @@ pub fn status_of(db: &Db) -> Status
 fn progress_response(session: &OpenSession) -> Response
     ensures { result ≡ record {
       answer = Answer.Repairing (progress_now session.now.database);
-      change = SessionChange.Latest None;
+      change = SessionChange.Latest None None;
     } }
 {
     Response::unrecorded(Answer::Repairing(progress_now(session.db())))

@@ -15,11 +15,14 @@ impl Response {
 
     /// An answer of which no record is kept.
     pub(crate) fn unrecorded(answer: Answer) -> Response
-        ensures { result ≡ record { answer = answer; change = SessionChange.Latest None } }
+        ensures { result ≡ record { answer = answer; change = SessionChange.Latest None None } }
     {
         Response {
             answer,
-            change: SessionChange::Latest(None),
+            change: SessionChange::Latest {
+                record: None,
+                stamped: None,
+            },
         }
     }
 }

@@ -1,4 +1,5 @@
 //! What becomes of a session with an answer, apart from its database.
+use crate::stamps::Stamps;
 use std::alloc::{AllocError, Global};
 use std::marker::Model;
 use tt_db::Db;
@@ -8,10 +9,21 @@ use tt_requests::Numbering;
 /// What becomes of a session once the answer to a request is made.
 #[derive(Drop)]
 pub enum SessionChange {
-    /// The record of the call is kept, if there is one.
-    Latest(Option<Record>),
+    /// The record of the call and the stamp of its slot are kept, if there are any.
+    Latest {
+        record: Option<Record>,
+        stamped: Option<StampedSlot>,
+    },
     /// The session goes on with a database that has forgotten what lies before a time.
     Forgetting(BoxedForgetting),
+}
+
+/// A slot that has a stamp.
+#[derive(Clone, Copy, Debug, PartialEq, Eq)]
+pub struct StampedSlot {
+    /// The number of the slot, by the numbers of the database.
+    pub slot: u64,
+    pub stamp: u64,
 }
 
 /// A database that has forgotten what lies before a time, and how a session goes on with it.
@@ -25,6 +37,8 @@ pub struct Forgetting {
     pub ground_slots: u64,
     /// How the numbers of the database are told.
     pub numbering: Numbering,
+    /// The stamps of the slots behind the ground.
+    pub stamps: Stamps,
 }
 
 impl Model for Forgetting {
@@ -40,6 +54,7 @@ impl Model for Forgetting {
       time = f.time;
       ground_slots = f.ground_slots;
       numbering = f.numbering;
+      stamps = f.stamps;
     } };
 
     ghost invariant = { λ f. IsSound f.db f.numbering [] 0 × (f.ground_slots ≤ f.time)

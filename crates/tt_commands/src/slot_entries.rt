@@ -3,14 +3,15 @@ ghost use Rattle.std.specs.Prelude.{◌≡◌, IfOk};
 ghost use Rattle.std.specs.Option.{option_copied};
 ghost use Rattle.tt_commands.specs.Answers.{Becomes};
 ghost use Rattle.tt_commands.specs.Commands.{slots_between};
-ghost use Rattle.tt_commands.specs.SlotEntries.{action_of, asked_action, if_replaced, entry_of_slot, is_asked_for, is_unchanged, changes_row, asked_entry, slot_entries};
+ghost use Rattle.tt_commands.specs.SlotEntries.{action_of, asked_action, if_replaced, entry_of_slot, is_asked_for, is_unchanged, changes_row, is_stamped_within, passes, asked_entry, slot_entries};
 
 use crate::failure::Failure;
 use crate::open_session::OpenSession;
 use crate::response::Response;
-use std::alloc::{AllocError, Global};
+use std::alloc::AllocError;
 use tt_answers::{Answer, SlotEntry};
 use tt_db::{Db, Entry, Event};
+use tt_requests::{SlotFilter, StampRange};
 use tt_values::{Action, Items, Row, RowId, Same};
 
 /// An action that was asked for, where its slot has another one now, or none.
@@ -49,9 +50,9 @@ pub(crate) fn asked_action(db: &Db, number: u64) -> Option<&Action>
     action_of(entry)
 }
 
-/// The slot of a number, if it is there.
-fn entry_of_slot(db: &Db, number: u64) -> Result<Option<SlotEntry>, AllocError>
-    ensures { IfOk result (λ entry. entry ≡ entry_of_slot db.now number) }
+/// The slot of a number and of a stamp, if it is there.
+fn entry_of_slot(db: &Db, number: u64, stamp: Option<u64>) -> Result<Option<SlotEntry>, AllocError>
+    ensures { IfOk result (λ entry. entry ≡ entry_of_slot db.now number stamp) }
 {
     let Some(slot) = db.slot(number) else {
         return Ok(None);
@@ -70,6 +71,7 @@ fn entry_of_slot(db: &Db, number: u64) -> Result<Option<SlotEntry>, AllocError>
     Ok(Some(SlotEntry {
         number,
         worker: entry.worker,
+        stamp,
         slot,
         asked,
     }))
@@ -108,45 +110,59 @@ fn changes_row(db: &Db, row: Option<RowId>, number: u64) -> bool
     !is_unchanged(before, after)
 }
 
-/// What is told of the slot of a number, if it is there and asked for.
-fn asked_entry(
-    db: &Db,
-    worker: Option<u32>,
-    row: Option<RowId>,
-    number: u64,
-) -> Result<Option<SlotEntry>, AllocError>
-    ensures { IfOk result (λ entry. entry ≡ asked_entry db.now worker row number) }
+/// Whether a stamp, if there is one, lies within the range that is asked for, if one is.
+fn is_stamped_within(range: Option<StampRange>, stamp: Option<u64>) -> bool
+    ensures { result ≡ is_stamped_within range stamp }
 {
-    let Some(entry) = entry_of_slot(db, number)? else {
-        return Ok(None);
-    };
-    if is_asked_for(worker, entry.worker) && changes_row(db, row, entry.number) {
-        Ok(Some(entry))
-    } else {
-        Ok(None)
+    match (range, stamp) {
+        (None, _) => true,
+        (Some(_), None) => false,
+        (Some(range), Some(stamp)) => range.low <= stamp && stamp <= range.high,
     }
 }
 
-/// The slots from one number to another, of a worker and with changes of a row where these are
-/// asked for.
+/// Whether a slot is asked for.
+fn passes(db: &Db, filter: SlotFilter, entry: &SlotEntry) -> bool
+    ensures { result ≡ passes db.now filter entry.now }
+{
+    is_asked_for(filter.worker, entry.worker)
+        && is_stamped_within(filter.stamps, entry.stamp)
+        && changes_row(db, filter.row, entry.number)
+}
+
+/// What is told of the slot of a number, if it is there and asked for.
+fn asked_entry(
+    session: &OpenSession,
+    filter: SlotFilter,
+    number: u64,
+) -> Result<Option<SlotEntry>, AllocError>
+    ensures { IfOk result (λ entry. entry ≡ asked_entry session.now filter number) }
+{
+    let db = session.db();
+    match entry_of_slot(db, number, session.stamp_of(number))? {
+        Some(entry) if passes(db, filter, &entry) => Ok(Some(entry)),
+        _ => Ok(None),
+    }
+}
+
+/// The slots from one number to another that are asked for.
 fn slot_entries(
-    alloc: Global,
-    db: &Db,
+    session: &OpenSession,
     from: u64,
     to: u64,
-    worker: Option<u32>,
-    row: Option<RowId>,
+    filter: SlotFilter,
 ) -> Result<Items<SlotEntry>, AllocError>
-    ensures { IfOk result (λ list. list ≡ slot_entries db.now from to worker row) }
+    ensures { IfOk result (λ list. list ≡ slot_entries session.now from to filter) }
 {
+    let alloc = session.alloc();
     let mut entries = Vec::new(alloc);
-    let last = to.min(db.now());
+    let last = to.min(session.db().now());
     let Some(past) = last.checked_add(1) else {
         // No database has 2^64 slots.
         return Err(AllocError);
     };
     for number in from..past {
-        if let Some(entry) = asked_entry(db, worker, row, number)? {
+        if let Some(entry) = asked_entry(session, filter, number)? {
             entries.push(entry)?;
         }
     }
@@ -159,13 +175,11 @@ pub(crate) fn slots_between(
     session: &OpenSession,
     from: u64,
     to: u64,
-    worker: Option<u32>,
-    row: Option<RowId>,
+    filter: SlotFilter,
 ) -> Result<Response, Failure>
-    ensures { Becomes session.now result (slots_between session.now from to worker row) }
+    ensures { Becomes session.now result (slots_between session.now from to filter) }
 {
-    let db = session.db();
-    let time = db.now();
-    let slots = slot_entries(session.alloc(), db, from, to, worker, row)?;
+    let time = session.db().now();
+    let slots = slot_entries(session, from, to, filter)?;
     Ok(Response::unrecorded(Answer::Slots { time, slots }))
 }

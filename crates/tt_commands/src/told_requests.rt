@@ -14,8 +14,10 @@ use crate::response::Response;
 use crate::slot_entries::slots_between;
 use tt_answers::Refusal;
 use tt_db::{Edit, ReadError};
-use tt_requests::{Numbering, Page, ToldEdits, ToldGeneration, ToldTime, missing_slot, own_edits};
-use tt_values::{RowId, Select};
+use tt_requests::{
+    Numbering, Page, SlotFilter, ToldEdits, ToldGeneration, ToldTime, missing_slot, own_edits,
+};
+use tt_values::Select;
 
 /// A generation can't be read.
 pub(crate) fn no_generation(session: &OpenSession) -> Refusal
@@ -122,14 +124,13 @@ pub(crate) fn slots(
     session: &OpenSession,
     from: ToldTime,
     to: ToldTime,
-    worker: Option<u32>,
-    row: Option<RowId>,
+    filter: SlotFilter,
 ) -> Result<Response, Failure>
-    ensures { Becomes session.now result (slots session.now from to worker row) }
+    ensures { Becomes session.now result (slots session.now from to filter) }
 {
     let numbering = session.numbering();
     let first = first_slot(numbering, from);
-    slots_between(session, first, numbering.own_time(to), worker, row)
+    slots_between(session, first, numbering.own_time(to), filter)
 }
 
 /// The slot that isn't there, if no repair is under way, which is refused before that.

@@ -41,17 +41,17 @@ module _ {D : Type 0} (of : Telling D) (first : D) (start : Session) (over : Lis
   -- ---- the two lines
 
   pub step-anew : (line : List ℕ) (f : Forgetting) (terms : Terms) (text refusal : List ℕ) → Forgets start over line f terms text refusal → IsReadable f terms
-      → Step start over (kept_line line) lines (lines_of_database f.db f.numbering terms) text
+      → Step start over (kept_line line) lines (lines_of_database f.db f.numbering f.stamps terms) text
   step-anew line f terms text refusal p readable =
       let S = (turns_of start over).session in
       let read : LineRead = kept_line line in
       let next : OpenSession = forgotten_by (counted p.session) f in
       let made : makes_log_anew S read ≡ true = ap (λ s. makes_log_anew s read) p.session_is ∙ p.anew in
       let next_is : (turn_of_read S read).session ≡ Open next = ap (λ s. (turn_of_read s read).session) p.session_is ∙ ap (λ (t : Turn). t.session) p.turn in
-      let is_log : IsLogOf (lines_of_log (Open next)) (Open next) = readable next refl refl (sym p.terms_are) p.few in
+      let is_log : IsLogOf (lines_of_log (Open next)) (Open next) = readable next refl refl refl (sym p.terms_are) p.few in
       record {
         lines_are =
-            ap (lines_of_database f.db f.numbering) p.terms_are ∙ sym (ap lines_of_log next_is) ∙ sym (log-anew (log_after lines start over) S read made)
+            ap (lines_of_database f.db f.numbering f.stamps) p.terms_are ∙ sym (ap lines_of_log next_is) ∙ sym (log-anew (log_after lines start over) S read made)
             ∙ sym (log-append lines start over (read ∷ []));
         text_is = text-one start over read (Open p.session) text p.session_is (ap (λ (t : Turn). t.text) p.turn);
         new_logs = (λ anew. subst (λ s. IsLogOf (lines_of_log s) s) (sym next_is) is_log, tt);

@@ -1,4 +1,5 @@
 pub mod LogReadLemmas
+pub mod StampLemmas
 pub mod LogRenewalLemmas
 pub mod RenewingLemmas
 pub mod AnewLemmas

@@ -1,12 +1,15 @@
 -- The lines of a log that is made anew are read back, and its opening opens no session.
-use Rattle.std.proofs.Common.{◌≡◌, ℕ, ◌+◌, ◌^◌, ◌<◌, ◌≤◌, Bool, true, false, not, nat_lt, List, [], ◌∷◌, ◌++◌, length, filter, Option, None, Some, Result, Ok, Err, Ordering, Less, Equal, Greater, nat_cmp, codes, decimal, refl, ap, ◌∙◌, arith, length-append}
+use Rattle.std.proofs.Common.{◌≡◌, ℕ, ◌+◌, ◌^◌, ◌<◌, ◌≤◌, Bool, true, false, not, nat_lt, List, [], ◌∷◌, ◌++◌, length, map, filter, Option, None, Some, IfSome, Result, Ok, Err, Ordering, Less, Equal, Greater, nat_cmp, codes, decimal, refl, sym, ap, ◌∙◌, arith, append_assoc, length-append}
 use Rattle.std.specs.Prelude.{is_err, IsErr}
 use Rattle.std.specs.Bool.{⊤}
+use Rattle.std.specs.List.{flat_map}
 use Rattle.std.specs.Ordering.{match_ordering}
 use Rattle.std.specs.Cmp.Lexicographic.{slice_cmp}
 use Rattle.std.proofs.lemmas.Bool.Decides.{nat_tests}
 use Rattle.std.proofs.lemmas.Bool.{le-ltb, lt-ltb}
 use Rattle.std.proofs.lemmas.Fmt.{length-decimal-le}
+use Rattle.std.proofs.lemmas.Grind.{flat_map-append}
+use Rattle.std.proofs.lemmas.List.{map-append}
 use Rattle.std.proofs.lemmas.Map.Lookups.{exact_bytes}
 use Rattle.json.specs.Json as json
 use Rattle.json.proofs.Printed.Decimals.{IsNumber-decimal}
@@ -25,8 +28,8 @@ use Rattle.tt_grammar.specs.declared.fault.DocFault.{DocFault}
 use Rattle.tt_grammar.specs.Fault.{◌>>=◌, with_path, document_path}
 use Rattle.tt_grammar.specs.Decoder.{count_within}
 use Rattle.tt_grammar.specs.Members.{is_one_of, refuse_member, no_members_but}
-use Rattle.tt_grammar.specs.JsonText.{Member, number_member, member_text, members_text, object_text}
-use Rattle.tt_grammar.specs.WriteText.{action_members}
+use Rattle.tt_grammar.specs.JsonText.{Member, number_member, further_item, member_text, members_text, object_text}
+use Rattle.tt_grammar.specs.WriteText.{writes_text, whole_members, action_members}
 use Rattle.tt_grammar.specs.ReadBack.{read_with}
 use Rattle.tt_grammar.specs.Actions.{action}
 use Rattle.tt_grammar.specs.Version.{newest_version, newest_session_version}
@@ -49,6 +52,7 @@ use Rattle.tt_requests.specs.GroundAction.{members_of_ground_action, ground_acti
 use Rattle.tt_requests.specs.Questions.{max_worker}
 use Rattle.tt_requests.specs.Requests.{several_writes, members_of_request, request_of}
 use Rattle.tt_requests.proofs.StepBackLemmas.{step, with_path-ok}
+use Rattle.tt_answers.specs.AnswerText.{stamp_members}
 use Rattle.tt_answers.specs.LogText.{ground_members, log_opening_members, log_opening_line, ground_line, slot_line}
 use Rattle.tt_durable.specs.LogReadBack.{IsTakenUp, PrintedLogOpens, PrintedGroundIsRead, PrintedSlotsAreRead, OpeningsHaveNoGround}
 use Rattle.tt_session.proofs.ReadBackLemmas.{length-object, digits-utf8, count-within, line-read, version-fits, version-digits}
@@ -219,23 +223,33 @@ printed_ground_is_read tables action catalog none sound storable =
 
 -- ---- further slots
 
-abbrev slot_tree : Tables → ℕ → Action → json.Members
-slot_tree tables worker action =
-    json.member (codes "worker") (json.number (decimal worker)) (json.member (codes "do") (json_of_writes tables action.writes) (whole_tree action.whole json.no_members))
+-- its stamp, if it has one, behind other members
+abbrev stamp_tree : Option ℕ → json.Members
+stamp_tree None = json.no_members
+stamp_tree (Some s) = json.member (codes "stamp") (json.number (decimal s)) json.no_members
 
-abbrev slot_data : Tables → ℕ → Action → Data
-slot_data tables worker action =
-    spec.object (member (codes "do") (data_of_writes tables action.writes) (whole_data action.whole (member (codes "worker") (number (unsigned worker)) no_members)))
+-- and before other members, by their names
+abbrev stamp_data : Option ℕ → Members → Members
+stamp_data None ms = ms
+stamp_data (Some s) ms = member (codes "stamp") (number (unsigned s)) ms
 
-abbrev slot_members : Tables → ℕ → Action → List Member
-slot_members tables worker action = number_member (codes "worker") worker ∷ action_members tables action
+abbrev slot_tree : Tables → ℕ → Action → Option ℕ → json.Members
+slot_tree tables worker action stamp =
+    json.member (codes "worker") (json.number (decimal worker)) (json.member (codes "do") (json_of_writes tables action.writes) (whole_tree action.whole (stamp_tree stamp)))
 
-abbrev the_request : ℕ → Action → Request
-the_request worker action = record { worker = worker; expected = None; command = commands.Write action }
+abbrev slot_data : Tables → ℕ → Action → Option ℕ → Data
+slot_data tables worker action stamp =
+    spec.object (member (codes "do") (data_of_writes tables action.writes) (stamp_data stamp (whole_data action.whole (member (codes "worker") (number (unsigned worker)) no_members))))
 
-abbrev IsSlotBack : Tables → ℕ → Action → Type 0
-IsSlotBack tables worker action =
-    IsReadBack 5 (json.object (slot_tree tables worker action)) (slot_line tables worker action) (slot_data tables worker action) (members_of_request newest_version tables) (the_request worker action)
+abbrev slot_members : Tables → ℕ → Action → Option ℕ → List Member
+slot_members tables worker action stamp = number_member (codes "worker") worker ∷ action_members tables action ++ stamp_members stamp
+
+abbrev the_request : ℕ → Action → Option ℕ → Request
+the_request worker action stamp = record { worker = worker; expected = None; command = commands.Write action stamp }
+
+abbrev IsSlotBack : Tables → ℕ → Action → Option ℕ → Type 0
+IsSlotBack tables worker action stamp =
+    IsReadBack 5 (json.object (slot_tree tables worker action stamp)) (slot_line tables worker action stamp) (slot_data tables worker action stamp) (members_of_request newest_version tables) (the_request worker action stamp)
 
 worker-within : (worker : ℕ) → 1 ≤ worker → worker < 2 ^ 32 → count_within 1 max_worker (number (unsigned worker)) ≡ Ok worker
 worker-within worker some few =
@@ -243,28 +257,44 @@ worker-within worker some few =
     let below : nat_lt max_worker worker ≡ false = grind (arith, nat_tests) in
     rw (above, below) refl
 
-slot_of-back : (tables : Tables) (worker : ℕ) (ws : List Write) (whole : Bool) → 1 ≤ worker → worker < 2 ^ 32 → AreWritesBack tables ws
-    → IsSlotBack tables worker (record { writes = ws; whole = whole })
+slot_of-back : (tables : Tables) (worker : ℕ) (ws : List Write) (whole : Bool) (stamp : Option ℕ) → 1 ≤ worker → worker < 2 ^ 32 → IfSome stamp (λ s. s < 2 ^ 64) → AreWritesBack tables ws
+    → IsSlotBack tables worker (record { writes = ws; whole = whole }) stamp
 unfolding members_of_request several_writes action
-slot_of-back tables worker ws false some few back =
+slot_of-back tables worker ws false None some few stamp_fits back =
     let fits : worker < 2 ^ 64 = omega arith in
     let slot : Action = record { writes = ws; whole = false } in
     record {
-      prints = object-prints (slot_tree tables worker slot) (slot_members tables worker slot) (refl, number-prints (decimal worker), (refl, back.prints, tt));
-      utf8 = IsUtf8-object (slot_members tables worker slot) ((IsUtf8-are_ascii (codes "worker") refl, digits-utf8 worker fits), ((IsUtf8-are_ascii (codes "do") refl, back.utf8), tt));
+      prints = object-prints (slot_tree tables worker slot None) (slot_members tables worker slot None) (refl, number-prints (decimal worker), (refl, back.prints, tt));
+      utf8 = IsUtf8-object (slot_members tables worker slot None) ((IsUtf8-are_ascii (codes "worker") refl, digits-utf8 worker fits), ((IsUtf8-are_ascii (codes "do") refl, back.utf8), tt));
       numbers = (IsNumber-decimal worker fits, (back.numbers, tt));
       shallow = let flat = back.shallow in omega arith;
       stands = simp (number_of-decimal worker fits, back.stands);
       once = simp back.once;
       decoded = simp (worker-within worker some few, back.decoded);
     }
-slot_of-back tables worker ws true some few back =
+slot_of-back tables worker ws false (Some s) some few stamp_fits back =
+    let fits : worker < 2 ^ 64 = omega arith in
+    let slot : Action = record { writes = ws; whole = false } in
+    record {
+      prints = object-prints (slot_tree tables worker slot (Some s)) (slot_members tables worker slot (Some s))
+          (refl, number-prints (decimal worker), (refl, back.prints, (refl, number-prints (decimal s), tt)));
+      utf8 = IsUtf8-object (slot_members tables worker slot (Some s)) (
+        (IsUtf8-are_ascii (codes "worker") refl, digits-utf8 worker fits),
+        ((IsUtf8-are_ascii (codes "do") refl, back.utf8), ((IsUtf8-are_ascii (codes "stamp") refl, digits-utf8 s stamp_fits), tt)),
+      );
+      numbers = (IsNumber-decimal worker fits, (back.numbers, (IsNumber-decimal s stamp_fits, tt)));
+      shallow = let flat = back.shallow in omega arith;
+      stands = simp (number_of-decimal worker fits, back.stands, number_of-decimal s stamp_fits);
+      once = simp back.once;
+      decoded = simp (worker-within worker some few, back.decoded);
+    }
+slot_of-back tables worker ws true None some few stamp_fits back =
     let fits : worker < 2 ^ 64 = omega arith in
     let slot : Action = record { writes = ws; whole = true } in
     record {
-      prints = object-prints (slot_tree tables worker slot) (slot_members tables worker slot)
+      prints = object-prints (slot_tree tables worker slot None) (slot_members tables worker slot None)
           (refl, number-prints (decimal worker), (refl, back.prints, (refl, flag-prints true, tt)));
-      utf8 = IsUtf8-object (slot_members tables worker slot) (
+      utf8 = IsUtf8-object (slot_members tables worker slot None) (
         (IsUtf8-are_ascii (codes "worker") refl, digits-utf8 worker fits),
         ((IsUtf8-are_ascii (codes "do") refl, back.utf8), ((IsUtf8-are_ascii (codes "whole") refl, IsUtf8-are_ascii (codes "true") refl), tt)),
       );
@@ -274,22 +304,64 @@ slot_of-back tables worker ws true some few back =
       once = simp back.once;
       decoded = simp (worker-within worker some few, back.decoded);
     }
+slot_of-back tables worker ws true (Some s) some few stamp_fits back =
+    let fits : worker < 2 ^ 64 = omega arith in
+    let slot : Action = record { writes = ws; whole = true } in
+    record {
+      prints = object-prints (slot_tree tables worker slot (Some s)) (slot_members tables worker slot (Some s))
+          (refl, number-prints (decimal worker), (refl, back.prints, (refl, flag-prints true, (refl, number-prints (decimal s), tt))));
+      utf8 = IsUtf8-object (slot_members tables worker slot (Some s)) (
+        (IsUtf8-are_ascii (codes "worker") refl, digits-utf8 worker fits),
+        (
+          (IsUtf8-are_ascii (codes "do") refl, back.utf8),
+          ((IsUtf8-are_ascii (codes "whole") refl, IsUtf8-are_ascii (codes "true") refl), ((IsUtf8-are_ascii (codes "stamp") refl, digits-utf8 s stamp_fits), tt)),
+        ),
+      );
+      numbers = (IsNumber-decimal worker fits, (back.numbers, (tt, (IsNumber-decimal s stamp_fits, tt))));
+      shallow = let flat = back.shallow in omega arith;
+      stands = simp (number_of-decimal worker fits, back.stands, number_of-decimal s stamp_fits);
+      once = simp back.once;
+      decoded = simp (worker-within worker some few, back.decoded);
+    }
 
 -- members behind a short one
 length-behind : (first members : List ℕ) (most : ℕ) → length first ≤ 99 → length members ≤ most → length (first ++ (codes "," ++ members)) ≤ most + 100
 length-behind first members most short few = simp length-append (omega (arith, short, few))
 
+-- members behind a first one, and others behind these
+members-append : (m : Member) (first others : List Member) → members_text (m ∷ first ++ others) ≡ members_text (m ∷ first) ++ flat_map further_item (map member_text others)
+members-append m first others =
+    ap (λ l. member_text m ++ flat_map further_item l) (map-append member_text first others)
+    ∙ ap (λ l. member_text m ++ l) (flat_map-append further_item (map member_text first) (map member_text others))
+    ∙ sym (append_assoc (member_text m) (flat_map further_item (map member_text first)) (flat_map further_item (map member_text others)))
+
+-- a stamp is short
+length-stamp : (stamp : Option ℕ) → IfSome stamp (λ s. s < 2 ^ 64) → length (flat_map further_item (map member_text (stamp_members stamp))) ≤ 99
+length-stamp None fits = omega arith
+length-stamp (Some s) fits =
+    let digits = length-decimal-le 20 s (omega arith) (omega arith) fits in
+    simp length-append (omega (arith, digits, length-append {A = ℕ}))
+
+-- the members of an action, and its stamp
+length-stamped : (tables : Tables) (action : Action) (stamp : Option ℕ) (most : ℕ) → IfSome stamp (λ s. s < 2 ^ 64) → length (members_text (action_members tables action)) ≤ most
+    → length (members_text (action_members tables action ++ stamp_members stamp)) ≤ most + 99
+length-stamped tables action stamp most fits few =
+    let parts : members_text (action_members tables action ++ stamp_members stamp) ≡ members_text (action_members tables action) ++ flat_map further_item (map member_text (stamp_members stamp)) =
+    members-append (codes "do", writes_text tables action.writes) (whole_members (codes "whole") action.whole) (stamp_members stamp) in
+    omega (arith, few, length-stamp stamp fits, ap length parts, length-append (members_text (action_members tables action)) (flat_map further_item (map member_text (stamp_members stamp))))
+
 pub printed_slots_are_read : PrintedSlotsAreRead
-printed_slots_are_read tables worker action catalog some few sound storable =
-    let line : List ℕ = slot_line tables worker action in
-    let back : IsSlotBack tables worker action = slot_of-back tables worker action.writes action.whole some few (writes-back tables action.writes catalog sound storable) in
+printed_slots_are_read tables worker action stamp catalog some few sound storable stamp_fits =
+    let line : List ℕ = slot_line tables worker action stamp in
+    let back : IsSlotBack tables worker action stamp = slot_of-back tables worker action.writes action.whole stamp some few stamp_fits (writes-back tables action.writes catalog sound storable) in
     let long = length-action tables action catalog sound storable in
     let digits = length-decimal-le 20 worker (omega arith) (omega arith) (omega arith) in
-    let all = length-behind (member_text (number_member (codes "worker") worker)) (members_text (action_members tables action)) 7000018 (omega arith) long in
-    let whole = length-object (slot_members tables worker action) 7000118 all in
+    let stamped = length-stamped tables action stamp 7000018 stamp_fits long in
+    let all = length-behind (member_text (number_member (codes "worker") worker)) (members_text (action_members tables action ++ stamp_members stamp)) 7000117 (omega arith) stamped in
+    let whole = length-object (slot_members tables worker action stamp) 7000217 all in
     let short = le-ltb max_line_bytes (length line) (omega arith) in
-    let value = line-value 5 (json.object (slot_tree tables worker action)) line (slot_data tables worker action) (members_of_request newest_version tables) (the_request worker action) back (omega arith) short in
-    (ap (request_of newest_version tables) value ∙ ap (with_path document_path) back.decoded, taken-up (slot_members tables worker action) short)
+    let value = line-value 5 (json.object (slot_tree tables worker action stamp)) line (slot_data tables worker action stamp) (members_of_request newest_version tables) (the_request worker action stamp) back (omega arith) short in
+    (ap (request_of newest_version tables) value ∙ ap (with_path document_path) back.decoded, taken-up (slot_members tables worker action stamp) short)
 
 -- ---- what opens a session opens no log
 

@@ -1,10 +1,8 @@
 -- What becomes of a log that is made anew, call by call.
-use Rattle.std.proofs.Common.{◌≡◌, Bool, ℕ, zero, suc, ◌+◌, ◌-◌, ◌≤◌, List, [], ◌∷◌, ◌++◌, take, drop, slice_get, All, append-nil, append_assoc, inl, inr, Option, Some, Result, Ok, Err, OnOk, IfErr, refl, sym, ap, ◌∙◌, subst, arith, add-one}
+use Rattle.std.proofs.Common.{◌≡◌, ℕ, zero, suc, ◌+◌, ◌≤◌, List, [], ◌∷◌, ◌++◌, map, take, slice_get, All, append-nil, append_assoc, inl, inr, Option, Some, Result, Ok, Err, OnOk, IfErr, refl, sym, ap, ◌∙◌, subst, arith, add-one}
 use Rattle.std.specs.Prelude.{IsErrAnd}
 use Rattle.std.proofs.Math.Seq.{take-nil, take-add}
-use Rattle.std.proofs.lemmas.List.{drop-drop, map-append}
-use Rattle.tt_values.specs.Tables.{Tables}
-use Rattle.tt_db.specs.declared.event.Entry.{Entry}
+use Rattle.std.proofs.lemmas.List.{map-append}
 use Rattle.tt_db.specs.Database.{nth_item}
 use Rattle.tt_db.proofs.ClosedLemmas.{drop_at_item}
 use Rattle.tt_log.specs.Device.{Left, Now}
@@ -14,7 +12,6 @@ use Rattle.tt_log.specs.declared.log.Log.{Log}
 use Rattle.tt_log.proofs.LineLemmas.{joined-append, AreLines-append, logged-joined}
 use Rattle.tt_log.proofs.MomentLemmas as moments
 use Rattle.tt_durable.specs.OnLog.{Telling}
-use Rattle.tt_session.specs.LogLines.{line_of_entry, lines_of_entries}
 use Rattle.tt_durable.specs.declared.log_renewal.RenewFault.{RenewFault}
 use Rattle.tt_durable.specs.declared.log_renewal.RenewFault.TheVariants as faults
 use Rattle.tt_durable.specs.Renewing.{FailsToRenew, FailsToWrite, failures_by, KeepsLog, TakesLines, LosesLog, IsWriting, WritesOn, KeepsShowing}
@@ -33,25 +30,18 @@ pub ok_with : {A E P : Type 0} (r : Result A E) → P → OnOk r P
 ok_with (Ok a) p = p
 ok_with (Err e) p = tt
 
--- the items of a list from a place on, up to behind one of them
-pub take-further : {X : Type 0} (xs : List X) (from place : ℕ) (x : X) → from ≤ place → slice_get xs place ≡ Some x → take (place + 1 - from) (drop from xs) ≡ take (place - from) (drop from xs) ++ x ∷ []
-take-further xs from place x behind is =
-    let n : ℕ = place - from in
-    let count : place + 1 - from ≡ n + 1 = omega arith in
-    let here : from + n ≡ place = omega arith in
-    ap (λ k. take k (drop from xs)) count ∙ take-add n 1 (drop from xs)
-    ∙ ap (λ l. take n (drop from xs) ++ take 1 l) (drop-drop n from xs ∙ ap (λ k. drop k xs) here ∙ drop_at_item xs place x is)
+-- the items of a list up to behind one of them
+pub take-further : {X : Type 0} (xs : List X) (place : ℕ) (x : X) → slice_get xs place ≡ Some x → take (place + 1) xs ≡ take place xs ++ x ∷ []
+take-further xs place x is = take-add place 1 xs ∙ ap (λ l. take place xs ++ take 1 l) (drop_at_item xs place x is)
 
 pub item-at : {X : Type 0} (xs : List X) (place : ℕ) (o : Option X) (x : X) → o ≡ nth_item xs (place + 1) → o ≡ Some x → slice_get xs place ≡ Some x
 item-at xs place o x found is = ap (nth_item xs) (sym (add-one place)) ∙ sym found ∙ is
 
--- the lines of the entries from a place on, up to behind one of them
-pub lines-further : (is_ground : Bool) (tables printed : Tables) (h : List Entry) (from place : ℕ) (e : Entry) (line text : List ℕ) → from ≤ place → slice_get h place ≡ Some e
-    → line ≡ text → text ≡ line_of_entry is_ground printed e → printed ≡ tables
-    → lines_of_entries is_ground tables (take (place + 1 - from) (drop from h)) ≡ lines_of_entries is_ground tables (take (place - from) (drop from h)) ++ line ∷ []
-lines-further is_ground tables printed h from place e line text behind at line_is text_is same =
-    ap (lines_of_entries is_ground tables) (take-further h from place e behind at) ∙ map-append (line_of_entry is_ground tables) (take (place - from) (drop from h)) (e ∷ [])
-    ∙ ap (λ l. lines_of_entries is_ground tables (take (place - from) (drop from h)) ++ l ∷ []) (sym (line_is ∙ text_is ∙ ap (λ t. line_of_entry is_ground t e) same))
+-- the lines of the items up to behind one of them
+pub lines-further : {X : Type 0} (line_of : X → List ℕ) (xs : List X) (place : ℕ) (x : X) (line : List ℕ) → slice_get xs place ≡ Some x → line ≡ line_of x
+    → map line_of (take (place + 1) xs) ≡ map line_of (take place xs) ++ line ∷ []
+lines-further line_of xs place x line at is =
+    ap (map line_of) (take-further xs place x at) ∙ map-append line_of (take place xs) (x ∷ []) ∙ ap (λ l. map line_of (take place xs) ++ l ∷ []) (sym is)
 
 pub all-one : {X : Type 0} (P : X → Type 0) (x : X) → P x → All P (x ∷ [])
 all-one P x p zero d less = p

@@ -1,4 +1,4 @@
--- What a session logs is read back: a line makes the same entries again, whatever was only read between, since what becomes of the database depends on the database alone.
+-- What a session logs is read back: a line makes the same entries again, whatever was only read between, since what becomes of the database and of the stamps depends on these alone.
 use Rattle.std.proofs.Common.{◌≡◌, ◌⊎◌, ℕ, ◌+◌, ◌==◌, ◌&&◌, Bool, true, false, not, cond, List, [], ◌∷◌, ◌++◌, length, append-nil, Result, Ok, Err, inl, inr, refl, sym, ap, ◌∙◌, subst}
 use Rattle.serde_json.specs.Data.{Data}
 use Rattle.tt_db.specs.Database.{Database}
@@ -35,10 +35,10 @@ two-requests s t asked same =
 -- ---- a session that was read back beside one that goes on
 
 base-alike : (s t : OpenSession) → base_of t ≡ base_of s → IsAlike t s
-base-alike s t same = record { database = ap (λ (b : Base). b.database) same; numbering = ap (λ (b : Base). b.numbering) same }
+base-alike s t same = record { database = ap (λ (b : Base). b.database) same; numbering = ap (λ (b : Base). b.numbering) same; stamps = ap (λ (b : Base). b.stamps) same }
 
 alike-base : (s t : OpenSession) → IsAlike t s → base_of t ≡ base_of s
-alike-base s t like = λ i. record { database = like.database i; numbering = like.numbering i }
+alike-base s t like = λ i. record { database = like.database i; numbering = like.numbering i; stamps = like.stamps i }
 
 like-entries : (read session : Session) → IsLike read session → entries_of read ≡ entries_of session
 like-entries read NotOpen m = ap entries_of m
@@ -55,7 +55,7 @@ Follows replayed session again next =
 
 opening-follows : (asked : Result Opening DocFault) → Follows NotOpen NotOpen (turn_by_opening asked).session (turn_by_opening asked).session
 opening-follows (Err fault) = inl (refl, refl)
-opening-follows (Ok opening) = inr ((opened opening, refl, record { database = refl; numbering = refl }), refl)
+opening-follows (Ok opening) = inr ((opened opening, refl, record { database = refl; numbering = refl; stamps = refl }), refl)
 
 -- an opening leaves an open session as far as it was
 reopening-follows : (replayed : Session) (session : OpenSession) (again : Session) (asked : Result Opening DocFault) → IsLike replayed (Open session)
@@ -64,11 +64,11 @@ reopening-follows replayed session again asked m =
     let n = reopening-next session asked in
     subst (λ next. Follows replayed (Open session) again next) (sym n.is)
     (inl (
-      (m.0, m.1, record { database = m.2.database ∙ sym n.database; numbering = m.2.numbering ∙ sym n.numbering }),
+      (m.0, m.1, record { database = m.2.database ∙ sym n.database; numbering = m.2.numbering ∙ sym n.numbering; stamps = m.2.stamps ∙ sym n.stamps }),
       same-entries (Open session) (Open n.next) (ap (λ (db : Database). length db.history + 1) n.database) (ap (λ (told : Numbering). told.horizon) n.numbering),
     ))
 
--- two open sessions with the same database, whose numbers are told alike, are asked the same
+-- two open sessions with the same database and stamps, whose numbers are told alike, are asked the same
 request-follows : (replayed : Session) (s t : OpenSession) (value : Result Data DocFault) → replayed ≡ Open t → base_of t ≡ base_of s → is_opening value ≡ false
     → Follows replayed (Open s) (turn_by_value replayed value).session (turn_by_request (counted s) (request_in s value)).session
 request-follows replayed s t value is same no_opening =
@@ -110,12 +110,12 @@ value-follows replayed (Open session) value m = go (is_opening value) refl
 lost-follows : (was_opening : Bool) (replayed session again : Session) → IsLike replayed session → Follows replayed session again (turn_without_memory was_opening session).session
 lost-follows was_opening replayed NotOpen again m = inl (m, refl)
 lost-follows true replayed (Open session) again m = inl (m, same-entries (Open session) (Open session) refl refl)
-lost-follows false replayed (Open session) again m = inl ((m.0, m.1, record { database = m.2.database; numbering = m.2.numbering }), same-entries (Open session) (Open (counted session)) refl refl)
+lost-follows false replayed (Open session) again m = inl ((m.0, m.1, record { database = m.2.database; numbering = m.2.numbering; stamps = m.2.stamps }), same-entries (Open session) (Open (counted session)) refl refl)
 
 -- and neither does one for which the log couldn't be made anew
 unlogged-follows : (replayed session again : Session) → IsLike replayed session → Follows replayed session again (turn_without_log session).session
 unlogged-follows replayed NotOpen again m = inl (m, refl)
-unlogged-follows replayed (Open session) again m = inl ((m.0, m.1, record { database = m.2.database; numbering = m.2.numbering }), same-entries (Open session) (Open (counted session)) refl refl)
+unlogged-follows replayed (Open session) again m = inl ((m.0, m.1, record { database = m.2.database; numbering = m.2.numbering; stamps = m.2.stamps }), same-entries (Open session) (Open (counted session)) refl refl)
 
 read-follows : (replayed session : Session) (read : LineRead) → IsLike replayed session
     → Follows replayed session (repeated replayed read.line) (turn_of_read session read).session
@@ -176,7 +176,7 @@ read-back (read ∷ front) others lines session p new =
 
 restored-like : (session : Session) → IsLike session (restored session)
 restored-like NotOpen = refl
-restored-like (Open session) = (session, refl, record { database = refl; numbering = refl })
+restored-like (Open session) = (session, refl, record { database = refl; numbering = refl; stamps = refl })
 
 pub logs_are_read_back : LogsAreReadBack
 logs_are_read_back lines start front others r new =

@@ -1,5 +1,5 @@
 -- What is printed into a log that is made anew is read from it as the same; and its opening is none for an input.
-use Rattle.std.specs.Prelude.{◌≡◌, ℕ, ◌^◌, ◌<◌, ◌≤◌, false, List, All, None, Result, Ok, IsErr}
+use Rattle.std.specs.Prelude.{◌≡◌, ℕ, ◌^◌, ◌<◌, ◌≤◌, false, List, All, Option, None, IfSome, Result, Ok, IsErr}
 use Rattle.tt_requests.specs.Numbers.{Numbering, IsNumbering}
 use Rattle.tt_values.specs.declared.action.Action.{Action}
 use Rattle.tt_values.specs.Tables.{Tables, IsCatalog}
@@ -41,12 +41,12 @@ abbrev pub PrintedGroundIsRead : Type 0
 PrintedGroundIsRead = (tables : Tables) (action : Action) → IsCatalog tables → action.whole ≡ false → action_fault tables action.writes ≡ None → All (λ w. All IsStorable (values_of_write w)) action.writes →
     (ground_action_of tables (value_of_line (ground_line tables action)) ≡ Ok action) × IsTakenUp (ground_line tables action)
 
--- an action of a further slot that can be carried out is read, as of the newest version, as a request of the same worker
+-- an action of a further slot that can be carried out is read, as of the newest version, as a request of the same worker with the same stamp
 abbrev pub PrintedSlotsAreRead : Type 0
-PrintedSlotsAreRead = (tables : Tables) (worker : ℕ) (action : Action) → IsCatalog tables → 1 ≤ worker → worker < 2 ^ 32
-    → action_fault tables action.writes ≡ None → All (λ w. All IsStorable (values_of_write w)) action.writes →
-    (request_of newest_version tables (value_of_line (slot_line tables worker action)) ≡ Ok (record { worker = worker; expected = None; command = commands.Write action }))
-    × IsTakenUp (slot_line tables worker action)
+PrintedSlotsAreRead = (tables : Tables) (worker : ℕ) (action : Action) (stamp : Option ℕ) → IsCatalog tables → 1 ≤ worker → worker < 2 ^ 32
+    → action_fault tables action.writes ≡ None → All (λ w. All IsStorable (values_of_write w)) action.writes → IfSome stamp (λ s. s < 2 ^ 64) →
+    (request_of newest_version tables (value_of_line (slot_line tables worker action stamp)) ≡ Ok (record { worker = worker; expected = None; command = commands.Write action stamp }))
+    × IsTakenUp (slot_line tables worker action stamp)
 
 -- what opens a session opens no log
 abbrev pub OpeningsHaveNoGround : Type 0

@@ -1,5 +1,5 @@
 -- What has become of a log that is made anew.
-use Rattle.std.specs.Prelude.{◌≡◌, ℕ, ◌<◌, ◌≤◌, ◌^◌, Bool, false, List, [], ◌++◌, take, Option, Some}
+use Rattle.std.specs.Prelude.{◌≡◌, ℕ, ◌<◌, ◌≤◌, ◌^◌, List, [], ◌++◌, take, Option, Some, IfSome}
 use Rattle.tt_log.specs.declared.log_error.LogError.{LogError}
 use Rattle.tt_log.specs.declared.log_error.LogError.TheVariants as errors
 use Rattle.tt_log.specs.Device.{Left, LeavesOnly, ShowsFirst}
@@ -19,16 +19,21 @@ use Rattle.tt_session.specs.LogLines.{action_in, lines_of_log}
 use Rattle.tt_durable.specs.OnLog.{Telling}
 use Rattle.tt_durable.specs.Restoring.{IsLogOf}
 
--- an entry is an action that is printed and read back, of a worker that may ask for one unless it is the ground's
-pub record IsPrintable (is_ground : Bool) (e : Entry) : Type 0 where
+-- an entry is an action that is printed and read back
+pub record IsPrintable (e : Entry) : Type 0 where
   pub is : e ≡ entry_of e.worker (action_in e)
   pub storable : IsStorableAction (action_in e)
-  pub worker : is_ground ≡ false → 0 < e.worker
-  pub worker_fits : e.worker < 2 ^ 32
+
+-- and so is one behind the ground with its stamp, of a worker that may ask for an action
+pub record IsFurtherPrintable (slot : Entry × Option ℕ) : Type 0 where
+  pub entry : IsPrintable slot.0
+  pub worker : 0 < slot.0.worker
+  pub worker_fits : slot.0.worker < 2 ^ 32
+  pub stamp_fits : IfSome slot.1 (λ stamp. stamp < 2 ^ 64)
 
 -- a log that is made for a session which forgets is one of that session
 abbrev pub IsReadable : Forgetting → Terms → Type 0
-IsReadable f terms = (session : OpenSession) → session.database ≡ f.db → session.numbering ≡ f.numbering → terms_of session ≡ terms → terms.most_records ≤ max_records →
+IsReadable f terms = (session : OpenSession) → session.database ≡ f.db → session.numbering ≡ f.numbering → session.stamps ≡ f.stamps → terms_of session ≡ terms → terms.most_records ≤ max_records →
     IsLogOf (lines_of_log (sessions.Open session)) (sessions.Open session)
 
 -- a log goes on as it was

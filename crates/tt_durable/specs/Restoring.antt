@@ -105,17 +105,18 @@ pub record IsNoLine (lines : List (List ℕ)) (number : ℕ) : Type 0 where
 
 -- ---- what is read back
 
--- two sessions have the same database, and tell their numbers alike
+-- two sessions have the same database, tell their numbers alike, and have the same stamps
 pub record IsAlike (one other : OpenSession) : Type 0 where
   pub database : one.database ≡ other.database
   pub numbering : one.numbering ≡ other.numbering
+  pub stamps : one.stamps ≡ other.stamps
 
 -- a session from the lines of a log alone is like one that goes on
 abbrev pub IsLike : Session → Session → Type 0
 IsLike read sessions.NotOpen = read ≡ sessions.NotOpen
 IsLike read (sessions.Open session) = (s : OpenSession) × (read ≡ sessions.Open s) × IsAlike s session
 
--- lines are a log of a session: they are read back, and make one with the same database that tells its numbers alike
+-- lines are a log of a session: they are read back, and make one with the same database and the same stamps that tells its numbers alike
 pub record IsLogOf (lines : List (List ℕ)) (session : Session) : Type 0 where
   pub read : Session
   pub reads : ReadsLog lines read 0

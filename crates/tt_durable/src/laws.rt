@@ -6,7 +6,8 @@ ghost use Rattle.tt_durable.specs.Restoring.{LogsAreReadBack, LogsAreReadInOneWa
 
 /// What a session has logged, and the first lines of that, however many a crash has left, are the
 /// lines of a log from which the next session begins: each changes the database again, and they
-/// make the database that the session had behind these lines, with its numbers told alike.
+/// make the database and the stamps that the session had behind these lines, with its numbers told
+/// alike.
 pub fn logs_are_read_back()
     ensures { LogsAreReadBack }
 {}
@@ -31,7 +32,7 @@ pub fn printed_ground_is_read()
 {}
 
 /// The line of a further slot, as it is printed, is a request of the same worker for the same
-/// action.
+/// action, with the same stamp.
 pub fn printed_slots_are_read()
     ensures { PrintedSlotsAreRead }
 {}

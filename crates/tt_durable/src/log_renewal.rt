@@ -1,15 +1,15 @@
 //! How a log is made anew, with the lines of a session that has forgotten what lies before a time.
-ghost use Rattle.std.specs.Prelude.{◌≡◌, ◌↔◌, ◌∷◌, ◌+◌, ◌-◌, ◌<◌, ◌≤◌, [], All, length, take, drop, IsTrue, IfErr, IsErrOf, OnOk};
+ghost use Rattle.std.specs.Prelude.{◌≡◌, ◌↔◌, ◌∷◌, ◌+◌, ◌<◌, ◌≤◌, [], All, length, take, drop, IsTrue, IfErr, IsErrOf, OnOk};
 ghost use Rattle.tt_db.specs.Limits.{usual_limits};
 ghost use Rattle.tt_log.specs.Lines.{logged, IsJoined};
 ghost use Rattle.tt_log.specs.Device.{LeavesNoNewFile};
 ghost use Rattle.tt_log.specs.Log.{IsSettled, IsMaking};
-ghost use Rattle.tt_session.specs.LogLines.{line_of_entry, lines_of_entries, lines_of_database};
-ghost use Rattle.tt_durable.specs.Renewing.{IsPrintable, IsReadable, IsWriting, WritesOn, WritesPending, TakesLines, FailsToRenew, FailsToWrite, FailsWriting, failures_by};
+ghost use Rattle.tt_session.specs.LogLines.{line_of_ground, lines_of_ground, stamped_entries, line_of_further, lines_of_further, lines_of_database};
+ghost use Rattle.tt_durable.specs.Renewing.{IsPrintable, IsFurtherPrintable, IsReadable, IsWriting, WritesOn, WritesPending, TakesLines, FailsToRenew, FailsToWrite, FailsWriting, failures_by};
 
 use std::alloc::{AllocError, Global};
 use tt_answers::{push_ground_line, push_log_opening, push_slot_line};
-use tt_commands::{Forgetting, Terms};
+use tt_commands::{Forgetting, Stamps, Terms};
 use tt_db::{Db, Entry, Event, Limits};
 use tt_log::{Device, Lines, Log, LogError, RenewError};
 use tt_requests::MAX_GROUND_SLOTS;
@@ -48,10 +48,12 @@ pub(crate) fn make_anew<D: Device>(
     requires { D.tells log.old.device → IsSettled D.seen D.may_leave log.old }
     ensures ok { OnOk result (D.tells log.old.device
         → TakesLines D.Device log.old log.new
-        (lines_of_database forgetting.now.db forgetting.now.numbering terms)) }
+        (lines_of_database forgetting.now.db forgetting.now.numbering
+        forgetting.now.stamps terms)) }
     ensures err { IfErr result (λ fault. D.tells log.old.device
         → FailsToRenew fault D.Device log.old log.new
-        (lines_of_database forgetting.now.db forgetting.now.numbering terms)) }
+        (lines_of_database forgetting.now.db forgetting.now.numbering
+        forgetting.now.stamps terms)) }
 
     // Where an error leaves a new file that wasn't there, the device has failed at least once more
     // than the error tells.
@@ -122,7 +124,8 @@ fn write_new<D: Device>(
     requires empty { D.tells log.old.device → D.new_file log.old.device ≡ [] }
     ensures ok { OnOk result (D.tells log.old.device
         → IsWriting D.Device log.old log.new []
-        (lines_of_database forgetting.now.db forgetting.now.numbering terms)) }
+        (lines_of_database forgetting.now.db forgetting.now.numbering
+        forgetting.now.stamps terms)) }
     ensures err { IfErr result (λ fault. D.tells log.old.device
         → FailsToWrite fault D.Device log.old log.new) }
     ensures readable { OnOk result (IsReadable forgetting.now terms) }
@@ -132,7 +135,11 @@ fn write_new<D: Device>(
     let limits = db.limits();
     let ground_slots = forgetting.numbering.ground_slots();
     let slots = db.events();
-    if !are_told(limits) || ground_slots > u64::from(MAX_GROUND_SLOTS) || ground_slots > slots {
+    if !are_told(limits)
+        || ground_slots > u64::from(MAX_GROUND_SLOTS)
+        || ground_slots > slots
+        || forgetting.stamps.len() as u64 > slots - ground_slots
+    {
         // No database of a session is like that.
         return Err(RenewFault::Memory);
     }
@@ -146,8 +153,15 @@ fn write_new<D: Device>(
         forgetting.numbering,
     )?;
     push_line(log, &mut lines, &text)?;
-    push_slots(log, &mut lines, &mut text, db, 0, ground_slots, true)?;
-    push_slots(log, &mut lines, &mut text, db, ground_slots, slots, false)?;
+    push_ground(log, &mut lines, &mut text, db, ground_slots)?;
+    push_slots(
+        log,
+        &mut lines,
+        &mut text,
+        db,
+        ground_slots,
+        &forgetting.stamps,
+    )?;
     write_pending(log, &mut lines)
 }
 
@@ -160,52 +174,97 @@ fn are_told(limits: Limits) -> bool
     limits.slots == usual.slots && limits.events == usual.events && limits.edits == usual.edits
 }
 
-/// Adds the lines of the slots of a database from one place of its history up to another.
-fn push_slots<D: Device>(
+/// Adds the lines of the slots of the ground: the first ones of a database.
+fn push_ground<D: Device>(
     log: &mut Log<D>,
     lines: &mut Lines,
     text: &mut Vec<u8>,
     db: &Db,
-    from: u64,
-    to: u64,
-    is_ground: bool,
+    ground_slots: u64,
 ) -> Result<(), RenewFault>
-    requires within { from ≤ to }
-    requires end { to ≤ length db.now.history }
+    requires within { ground_slots ≤ length db.now.history }
     requires settled { D.tells log.old.device → IsSettled D.seen D.may_leave log.old }
     requires making { D.tells log.old.device → IsMaking D.new_file log.old }
     ensures ok { OnOk result (D.tells log.old.device
-        → WritesOn D.Device log.old log.new lines.old lines.new (lines_of_entries is_ground
-        db.now.catalog (take (to - from) (drop from db.now.history)))) }
+        → WritesOn D.Device log.old log.new lines.old lines.new
+        (lines_of_ground db.now.catalog (take ground_slots db.now.history))) }
     ensures err { IfErr result (λ fault. D.tells log.old.device
         → FailsWriting fault D.Device log.old log.new lines.old) }
-    ensures printable { OnOk result (All (IsPrintable is_ground)
-        (take (to - from) (drop from db.now.history))) }
+    ensures printable { OnOk result (All IsPrintable (take ground_slots db.now.history)) }
     ensures settled { OnOk result
         (D.tells log.new.device → IsSettled D.seen D.may_leave log.new) }
     ensures making { OnOk result (D.tells log.new.device → IsMaking D.new_file log.new) }
     ensures tells { D.tells log.old.device ↔ D.tells log.new.device }
 {
-    for place in from..to {
+    for place in 0..ground_slots {
         let Some(entry) = db.entry(place + 1) else {
             unreachable!();
         };
-        print_slot(text, db.catalog(), entry, is_ground)?;
+        print_ground(text, db.catalog(), entry)?;
         push_line(log, lines, text)?;
     }
     Ok(())
 }
 
-/// Puts the line of a slot, by its entry of the history, into a text.
+/// Adds the lines of the slots of a database behind its ground, with their stamps.
+fn push_slots<D: Device>(
+    log: &mut Log<D>,
+    lines: &mut Lines,
+    text: &mut Vec<u8>,
+    db: &Db,
+    ground_slots: u64,
+    stamps: &Stamps,
+) -> Result<(), RenewFault>
+    requires within { ground_slots ≤ length db.now.history }
+    requires settled { D.tells log.old.device → IsSettled D.seen D.may_leave log.old }
+    requires making { D.tells log.old.device → IsMaking D.new_file log.old }
+    ensures ok { OnOk result (D.tells log.old.device
+        → WritesOn D.Device log.old log.new lines.old lines.new (lines_of_further
+        db.now.catalog (stamped_entries (drop ground_slots db.now.history) stamps.now))) }
+    ensures err { IfErr result (λ fault. D.tells log.old.device
+        → FailsWriting fault D.Device log.old log.new lines.old) }
+    ensures printable { OnOk result (All IsFurtherPrintable
+        (stamped_entries (drop ground_slots db.now.history) stamps.now)) }
+    ensures settled { OnOk result
+        (D.tells log.new.device → IsSettled D.seen D.may_leave log.new) }
+    ensures making { OnOk result (D.tells log.new.device → IsMaking D.new_file log.new) }
+    ensures tells { D.tells log.old.device ↔ D.tells log.new.device }
+{
+    let slots = db.events();
+    for place in ground_slots..slots {
+        let Some(entry) = db.entry(place + 1) else {
+            unreachable!();
+        };
+        let stamp = stamps.get(place + 1 - ground_slots);
+        print_slot(text, db.catalog(), entry, stamp)?;
+        push_line(log, lines, text)?;
+    }
+    Ok(())
+}
+
+/// Puts the line of a slot of the ground, by its entry of the history, into a text.
+fn print_ground(text: &mut Vec<u8>, catalog: &Catalog, entry: &Entry) -> Result<(), AllocError>
+    ensures line { OnOk result (text.new.items ≡ line_of_ground catalog.now entry.now) }
+    ensures printable { OnOk result (IsPrintable entry.now) }
+{
+    text.clear();
+    let Event::Write(action) = &entry.event else {
+        // A database that has just forgotten has actions alone.
+        return Err(AllocError);
+    };
+    push_ground_line(text, catalog, action)
+}
+
+/// Puts the line of a further slot, by its entry of the history and its stamp, into a text.
 fn print_slot(
     text: &mut Vec<u8>,
     catalog: &Catalog,
     entry: &Entry,
-    is_ground: bool,
+    stamp: Option<u64>,
 ) -> Result<(), AllocError>
     ensures line { OnOk result
-        (text.new.items ≡ line_of_entry is_ground catalog.now entry.now) }
-    ensures printable { OnOk result (IsPrintable is_ground entry.now) }
+        (text.new.items ≡ line_of_further catalog.now (entry.now, stamp)) }
+    ensures printable { OnOk result (IsFurtherPrintable (entry.now, stamp)) }
 {
     text.clear();
     let worker = entry.worker;
@@ -213,14 +272,11 @@ fn print_slot(
         // A database that has just forgotten has actions alone.
         return Err(AllocError);
     };
-    if is_ground {
-        return push_ground_line(text, catalog, action);
-    }
     if worker == 0 {
         // Behind the ground no slot is one of it.
         return Err(AllocError);
     }
-    push_slot_line(text, catalog, worker, action)
+    push_slot_line(text, catalog, worker, action, stamp)
 }
 
 /// Adds a line, and writes those that are pending once they are many bytes.

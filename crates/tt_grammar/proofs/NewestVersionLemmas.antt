@@ -18,7 +18,7 @@ use Rattle.tt_grammar.specs.Arrays.{each, array_of}
 use Rattle.tt_grammar.specs.Conditions.{table_named, parts_of_condition, condition}
 use Rattle.tt_grammar.specs.Changes.{change}
 use Rattle.tt_grammar.specs.Members.{is_one_of, no_members_but}
-use Rattle.tt_grammar.specs.Statements.{no_members_at, conditions, update, delete}
+use Rattle.tt_grammar.specs.Statements.{stamp, no_members_at, conditions, update, delete}
 use Rattle.tt_grammar.specs.Actions.{write, item_of_action, writes, is_whole, members_of_action, action}
 use Rattle.tt_grammar.specs.Edits.{no_kind_of_write, replacement_by, replacement}
 use Rattle.tt_grammar.specs.Version.{newest_version}
@@ -164,6 +164,12 @@ without_whole : (context : Context) (v : Data) → no_members_at context (codes 
     → (get (codes "whole") v ≡ None) × (no_members_at context (members_of_action newest_version) v ≡ Ok tt)
 without_whole contexts.Call v h = without (codes "worker" ∷ codes "do" ∷ []) v refl h
 without_whole contexts.Request v h = without (codes "if" ∷ codes "worker" ∷ codes "do" ∷ []) v refl h
+without_whole contexts.WriteRequest v h = in_write (stamp v) h
+  where
+    in_write : (read : Result (Option ℕ) DocFault) → (read >>= λ _. no_members_but (is_one_of (codes "if" ∷ codes "worker" ∷ codes "stamp" ∷ codes "do" ∷ [])) v) ≡ Ok tt
+        → (get (codes "whole") v ≡ None) × ((read >>= λ _. no_members_but (is_one_of (codes "if" ∷ codes "worker" ∷ codes "stamp" ∷ codes "do" ∷ codes "whole" ∷ [])) v) ≡ Ok tt)
+    in_write (Ok s) g = without (codes "if" ∷ codes "worker" ∷ codes "stamp" ∷ codes "do" ∷ []) v refl g
+    in_write (Err fault) g = cc
 without_whole contexts.Nested v h = without (codes "do" ∷ []) v refl h
 
 -- what stands beside `do` in versions 1 and 2, whose actions aren't whole

@@ -8,7 +8,7 @@ use crate::arrays::decode_items;
 use crate::decoder::{Decoder, FlagDecoder, OUT_OF_RANGE, array, has, member, object, optional};
 use crate::fault::DocFault;
 use crate::members::no_members_but;
-use crate::statements::{Context, delete, insert, update};
+use crate::statements::{Context, delete, insert, stamp, update};
 use crate::version::Version;
 use std::alloc::{AllocError, Global};
 use tt_json::JsonValue;
@@ -107,6 +107,10 @@ fn no_members_but_do<V: JsonValue>(
     match context {
         Context::Call => no_members_but(alloc, value, &["worker", "do"]),
         Context::Request => no_members_but(alloc, value, &["if", "worker", "do"]),
+        Context::WriteRequest => {
+            let _ = stamp(alloc, value)?;
+            no_members_but(alloc, value, &["if", "worker", "stamp", "do"])
+        }
         Context::Nested => no_members_but(alloc, value, &["do"]),
     }
 }
@@ -122,6 +126,10 @@ fn no_members_but_do_and_whole<V: JsonValue>(
     match context {
         Context::Call => no_members_but(alloc, value, &["worker", "do", "whole"]),
         Context::Request => no_members_but(alloc, value, &["if", "worker", "do", "whole"]),
+        Context::WriteRequest => {
+            let _ = stamp(alloc, value)?;
+            no_members_but(alloc, value, &["if", "worker", "stamp", "do", "whole"])
+        }
         Context::Nested => no_members_but(alloc, value, &["do", "whole"]),
     }
 }

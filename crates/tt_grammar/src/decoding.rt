@@ -10,7 +10,7 @@ pub use crate::decoder::{
 pub use crate::edits::ReplacementDecoder;
 pub use crate::members::no_members_but;
 pub use crate::quoting::quoted_text;
-pub use crate::statements::{Context, checked_select, conditions, delete, insert, update};
+pub use crate::statements::{Context, checked_select, conditions, delete, insert, stamp, update};
 pub use crate::tables::TablesDecoder;
 pub use crate::text_value::{NOT_JSON, TOO_LONG};
 pub use crate::version::{Version, VersionDecoder};

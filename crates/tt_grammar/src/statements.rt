@@ -1,36 +1,44 @@
 //! Reading of statements.
-ghost use Rattle.std.specs.Prelude.{◌≡◌, [], ◌∷◌, codes, false, map, option_map};
+ghost use Rattle.std.specs.Prelude.{◌≡◌, [], ◌∷◌, ◌++◌, codes, false, map, option_map};
 ghost use Rattle.tt_values.specs.Check.{write_fault, select_fault};
 ghost use Rattle.tt_grammar.specs.Fault.{Gives};
 ghost use Rattle.std.specs.Option.{option_copied};
 ghost use Rattle.std.specs.Str.{bytes_eq};
 ghost use Rattle.serde_json.specs.Find.{get};
 ghost use Rattle.tt_grammar.specs.Decoder.{read_member};
-ghost use Rattle.tt_grammar.specs.Members.{refuse_member};
+ghost use Rattle.tt_grammar.specs.Members.{is_one_of, refuse_member};
 ghost use Rattle.tt_grammar.specs.Arrays.{array_of};
 ghost use Rattle.tt_grammar.specs.Conditions.{condition};
-ghost use Rattle.tt_grammar.specs.Statements.{checked_statement, members_at, conditions, no_members_at, insert, update, delete};
+ghost use Rattle.tt_grammar.specs.Statements.{checked_statement, members_at, conditions, stamp, no_members_at, no_members_but_at, insert, update, delete};
 
 use crate::arrays::ArrayDecoder;
 use crate::causes::cause_of_check;
 use crate::changes::ChangeDecoder;
 use crate::conditions::{ConditionDecoder, TableNameDecoder, ValueDecoder};
-use crate::decoder::{found_member, member};
+use crate::decoder::{AnyCountDecoder, found_member, member, optional};
 use crate::fault::DocFault;
-use crate::members::no_unknown_member;
+use crate::members::{no_members_but, no_unknown_member};
 use crate::version::Version;
 use std::alloc::Global;
 use tt_json::{Found, JsonValue};
 use tt_values::{Catalog, Equal, Items, Row, Select, Write, check, check_select};
 
 /// Where a write or an action stands: in a call, which has a worker; in a request of a session,
-/// which may have a worker and a time that it expects; or nested in an action or an edit, which
-/// have neither.
+/// which may have a worker and a time that it expects, and a stamp if it writes; or nested in an
+/// action or an edit, which have none of these.
 #[derive(Clone, Copy)]
 pub enum Context {
     Call,
     Request,
+    WriteRequest,
     Nested,
+}
+
+/// The stamp of a request that writes, which may be left out.
+pub fn stamp<V: JsonValue>(alloc: Global, value: &V) -> Result<Option<u64>, DocFault>
+    ensures { Gives result (stamp (V.json value.now)) }
+{
+    optional(alloc, value, "stamp", &AnyCountDecoder)
 }
 
 /// The insert of an object.
@@ -49,7 +57,7 @@ pub fn insert<V: JsonValue>(
         decoder: ValueDecoder,
     };
     let values = found_member(alloc, found.second, "row", &decoder)?;
-    no_unknown_member(alloc, found.unknown)?;
+    no_other_member(alloc, context, value, "insert", "row", found.unknown)?;
     let row = Row { values };
     checked_write(alloc, catalog, Write::Insert { table, row })
 }
@@ -72,7 +80,7 @@ pub fn update<V: JsonValue>(
     };
     let changes = member(alloc, value, "change", &decoder)?;
     let equals = found_conditions(alloc, version, catalog, table, found.second)?;
-    no_unknown_member(alloc, found.unknown)?;
+    no_other_in_update(alloc, context, value, found.unknown)?;
     let write = Write::Update {
         table,
         changes,
@@ -95,12 +103,12 @@ pub fn delete<V: JsonValue>(
     let found = find_in(context, value, "delete", "where");
     let table = found_member(alloc, found.first, "delete", &TableNameDecoder { catalog })?;
     let equals = found_conditions(alloc, version, catalog, table, found.second)?;
-    no_unknown_member(alloc, found.unknown)?;
+    no_other_member(alloc, context, value, "delete", "where", found.unknown)?;
     checked_write(alloc, catalog, Write::Delete { table, equals })
 }
 
 /// The two members of an insert or a delete, and the least name of another member that it may not
-/// have in its context.
+/// have in its context, a stamp aside.
 #[inline(always)]
 #[tactic(auto, using(crate::proofs::StatementLemmas::unknown_in))]
 fn find_in<'v, V: JsonValue>(
@@ -113,39 +121,100 @@ fn find_in<'v, V: JsonValue>(
     ensures first { option_map V.json result.first ≡ get first.now (V.json value.now) }
     ensures second { option_map V.json result.second ≡ get second.now (V.json value.now) }
     ensures unknown { refuse_member (option_copied result.unknown)
-        ≡ no_members_at context (first.now ∷ second.now ∷ []) (V.json value.now) }
+        ≡ no_members_but_at context (first.now ∷ second.now ∷ []) (V.json value.now) }
 {
     value.find_two(first, second, members_at(context))
 }
 
-/// The members that an object of a write may have beside those of the write.
+/// Refuses an insert or a delete for its stamp, or else for its least unknown member, where its
+/// context has it so. The least member that isn't known beside a stamp has been looked for.
+#[tactic(auto, using(crate::proofs::StatementLemmas::without_stamp, crate::proofs::StatementLemmas::in_nested))]
+fn no_other_member<V: JsonValue>(
+    alloc: Global,
+    context: Context,
+    value: &V,
+    first: &str,
+    second: &str,
+    unknown: Option<&str>,
+) -> Result<(), DocFault>
+    requires no_stamp { is_one_of (first.now ∷ second.now ∷ []) (codes "stamp") ≡ false }
+    requires unknown { refuse_member (option_copied unknown)
+        ≡ no_members_but_at context (first.now ∷ second.now ∷ []) (V.json value.now) }
+    ensures { Gives result
+        (no_members_at context (first.now ∷ second.now ∷ []) (V.json value.now)) }
+{
+    match (context, unknown) {
+        (Context::Call, unknown) => no_unknown_member(alloc, unknown),
+        (Context::Request, unknown) => no_unknown_member(alloc, unknown),
+        (Context::Nested, unknown) => no_unknown_member(alloc, unknown),
+        (Context::WriteRequest, None) => Ok(()),
+        (Context::WriteRequest, Some(_)) => {
+            let _ = stamp(alloc, value)?;
+            no_members_but(alloc, value, &["if", "worker", "stamp", first, second])
+        }
+    }
+}
+
+/// The members that an object of a write may have beside those of the write and its stamp.
 fn members_at(context: Context) -> &'static [&'static str]
     ensures { map (λ name. name.now) result.now ≡ members_at context }
 {
     match context {
         Context::Call => &["worker"],
-        Context::Request => &["if", "worker"],
+        Context::Request | Context::WriteRequest => &["if", "worker"],
         Context::Nested => &[],
     }
 }
 
 /// The members `update` and `where` of an update, and the least name of another member that it may
-/// not have in its context.
+/// not have in its context, a stamp aside.
 #[inline(always)]
-#[tactic(auto, using(crate::proofs::StatementLemmas::unknown_beside))]
 fn find_in_update<V: JsonValue>(context: Context, value: &V) -> Found<'_, V>
     ensures first { option_map V.json result.first ≡ get (codes "update") (V.json value.now) }
     ensures second { option_map V.json result.second ≡ get (codes "where") (V.json value.now) }
     ensures unknown { refuse_member (option_copied result.unknown)
-        ≡ no_members_at context (codes "change" ∷ codes "update" ∷ codes "where" ∷ [])
+        ≡ no_members_but_at context (codes "change" ∷ codes "update" ∷ codes "where" ∷ [])
         (V.json value.now) }
 {
-    let known: &[&str] = match context {
+    value.find_two("update", "where", members_with_change_at(context))
+}
+
+/// The member `change`, and those that an object of a write may have beside those of the write and
+/// its stamp.
+fn members_with_change_at(context: Context) -> &'static [&'static str]
+    ensures { map (λ name. name.now) result.now ≡ members_at context ++ codes "change" ∷ [] }
+{
+    match context {
         Context::Call => &["worker", "change"],
-        Context::Request => &["if", "worker", "change"],
+        Context::Request | Context::WriteRequest => &["if", "worker", "change"],
         Context::Nested => &["change"],
-    };
-    value.find_two("update", "where", known)
+    }
+}
+
+/// As [`no_other_member`], for an update.
+#[tactic(auto, using(crate::proofs::StatementLemmas::without_stamp, crate::proofs::StatementLemmas::in_nested))]
+fn no_other_in_update<V: JsonValue>(
+    alloc: Global,
+    context: Context,
+    value: &V,
+    unknown: Option<&str>,
+) -> Result<(), DocFault>
+    requires { refuse_member (option_copied unknown) ≡ no_members_but_at context
+        (codes "change" ∷ codes "update" ∷ codes "where" ∷ []) (V.json value.now) }
+    ensures { Gives result (no_members_at context
+        (codes "change" ∷ codes "update" ∷ codes "where" ∷ []) (V.json value.now)) }
+{
+    match (context, unknown) {
+        (Context::Call, unknown) => no_unknown_member(alloc, unknown),
+        (Context::Request, unknown) => no_unknown_member(alloc, unknown),
+        (Context::Nested, unknown) => no_unknown_member(alloc, unknown),
+        (Context::WriteRequest, None) => Ok(()),
+        (Context::WriteRequest, Some(_)) => {
+            let _ = stamp(alloc, value)?;
+            let known = ["if", "worker", "stamp", "change", "update", "where"];
+            no_members_but(alloc, value, &known)
+        }
+    }
 }
 
 /// The conditions of a statement on a table, from its member `where`.

@@ -15,7 +15,7 @@ use Rattle.tt_grammar.specs.Fault.{◌>>=◌, document_path}
 use Rattle.tt_grammar.specs.Decoder.{object, array, within_limit, count, count_within, has, member, optional}
 use Rattle.tt_grammar.specs.Members.{is_one_of, no_members_but}
 use Rattle.tt_grammar.specs.Conditions.{table_named}
-use Rattle.tt_grammar.specs.Statements.{checked_statement, conditions, no_members_at, insert, update, delete}
+use Rattle.tt_grammar.specs.Statements.{checked_statement, conditions, stamp, no_members_at, insert, update, delete}
 use Rattle.tt_grammar.specs.Actions.{action}
 use Rattle.tt_grammar.specs.Edits.{max_edits, replacement}
 use Rattle.tt_requests.specs.declared.kinds.RequestKind.{RequestKind}
@@ -80,27 +80,29 @@ edits-judged version tables v asked e =
 abbrev Judges : Tables → (Data → Result Command DocFault) → Type 0
 Judges tables meaning = (v : Data) (asked : Command) → meaning v ≡ Ok asked → IsJudged tables asked
 
-one_write-judged : (tables : Tables) (reading : Result Write DocFault) (asked : Command) → ((w : Write) → reading ≡ Ok w → Accepts tables w)
-    → one_write reading ≡ Ok asked → IsJudged tables asked
+one_write-judged : (tables : Tables) (reading : Result Write DocFault) (v : Data) (asked : Command) → ((w : Write) → reading ≡ Ok w → Accepts tables w)
+    → one_write reading v ≡ Ok asked → IsJudged tables asked
 unfolding one_write
-one_write-judged tables reading asked accepted e =
+one_write-judged tables reading v asked accepted e =
     let write = step reading _ asked e in
-    subst (IsJudged tables) (ok_same write.rest) (one_write-accepted tables write.value (accepted write.value write.is))
+    let stamped = step (stamp v) _ asked write.rest in
+    subst (IsJudged tables) (ok_same stamped.rest) (one_write-accepted tables write.value (accepted write.value write.is))
 
-insert-judged : (tables : Tables) → Judges tables (λ v. one_write (insert tables contexts.Request v))
-insert-judged tables v asked e = one_write-judged tables (insert tables contexts.Request v) asked (insert-accepted tables contexts.Request v) e
+insert-judged : (tables : Tables) → Judges tables (λ v. one_write (insert tables contexts.WriteRequest v) v)
+insert-judged tables v asked e = one_write-judged tables (insert tables contexts.WriteRequest v) v asked (insert-accepted tables contexts.WriteRequest v) e
 
-update-judged : (version : Version) (tables : Tables) → Judges tables (λ v. one_write (update version tables contexts.Request v))
-update-judged version tables v asked e = one_write-judged tables (update version tables contexts.Request v) asked (update-accepted version tables contexts.Request v) e
+update-judged : (version : Version) (tables : Tables) → Judges tables (λ v. one_write (update version tables contexts.WriteRequest v) v)
+update-judged version tables v asked e = one_write-judged tables (update version tables contexts.WriteRequest v) v asked (update-accepted version tables contexts.WriteRequest v) e
 
-delete-judged : (version : Version) (tables : Tables) → Judges tables (λ v. one_write (delete version tables contexts.Request v))
-delete-judged version tables v asked e = one_write-judged tables (delete version tables contexts.Request v) asked (delete-accepted version tables contexts.Request v) e
+delete-judged : (version : Version) (tables : Tables) → Judges tables (λ v. one_write (delete version tables contexts.WriteRequest v) v)
+delete-judged version tables v asked e = one_write-judged tables (delete version tables contexts.WriteRequest v) v asked (delete-accepted version tables contexts.WriteRequest v) e
 
 several_writes-judged : (version : Version) (tables : Tables) → Judges tables (several_writes version tables)
 unfolding several_writes
 several_writes-judged version tables v asked e =
-    let read = step (action version tables contexts.Request v) _ asked e in
-    subst (IsJudged tables) (ok_same read.rest) (action-accepted version tables contexts.Request v read.value read.is)
+    let read = step (action version tables contexts.WriteRequest v) _ asked e in
+    let stamped = step (stamp v) _ asked read.rest in
+    subst (IsJudged tables) (ok_same stamped.rest) (action-accepted version tables contexts.WriteRequest v read.value read.is)
 
 read-judged : (version : Version) (tables : Tables) → Judges tables (read version tables)
 unfolding read
@@ -198,9 +200,8 @@ slots-judged : (tables : Tables) → Judges tables (slots tables)
 unfolding slots
 slots-judged tables v asked e =
     let wanted = step (member (codes "slots") span v) _ asked e in
-    let worker = step (optional (codes "of") worker_number v) _ asked wanted.rest in
-    let row = step (optional (codes "row") (row_named tables) v) _ asked worker.rest in
-    let known = step (no_members_at contexts.Request (codes "of" ∷ codes "row" ∷ codes "slots" ∷ []) v) _ asked row.rest in
+    let filter = step (questions.slot_filter tables v) _ asked wanted.rest in
+    let known = step (no_members_at contexts.Request (codes "of" ∷ codes "row" ∷ codes "slots" ∷ codes "stamps" ∷ []) v) _ asked filter.rest in
     subst (IsJudged tables) (ok_same known.rest) tt
 
 changes_at-judged : (tables : Tables) (moment : Moment) (page : ChangePage) → IsJudged tables (questions.changes_at moment page)

@@ -12,3 +12,4 @@ mod worked_lines
 mod worked_versions
 mod worked_whole_actions
 mod worked_changes
+mod worked_stamps

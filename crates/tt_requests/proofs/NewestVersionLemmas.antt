@@ -45,7 +45,7 @@ edits-same version tables v =
 
 several_writes-same : (version : Version) (tables : Tables) (v : Data) → ReadsTheSame (several_writes version tables v) (several_writes newest_version tables v)
 unfolding several_writes
-several_writes-same version tables v = made-same _ _ _ (action-same version tables contexts.Request v)
+several_writes-same version tables v = made-same _ _ _ (action-same version tables contexts.WriteRequest v)
 
 read-same : (version : Version) (tables : Tables) (v : Data) → ReadsTheSame (read version tables v) (read newest_version tables v)
 unfolding read
@@ -71,8 +71,8 @@ would-same version tables v =
 command_of-same : (version : Version) (tables : Tables) (kind : RequestKind) (v : Data) → ReadsTheSame (command_of version tables kind v) (command_of newest_version tables kind v)
 unfolding one_write
 command_of-same version tables kinds.Insert v = λ t e. e
-command_of-same version tables kinds.Update v = made-same _ _ _ (update-same version tables contexts.Request v)
-command_of-same version tables kinds.Delete v = made-same _ _ _ (delete-same version tables contexts.Request v)
+command_of-same version tables kinds.Update v = made-same _ _ _ (update-same version tables contexts.WriteRequest v)
+command_of-same version tables kinds.Delete v = made-same _ _ _ (delete-same version tables contexts.WriteRequest v)
 command_of-same version tables kinds.Select v = read-same version tables v
 command_of-same version tables kinds.Preview v = preview-same version tables v
 command_of-same version tables kinds.Do v = several_writes-same version tables v

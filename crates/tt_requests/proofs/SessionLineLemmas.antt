@@ -1,5 +1,5 @@
 -- No request has a version.
-use Rattle.std.proofs.Common.{◌≡◌, ℕ, false, List, [], ◌∷◌, Result, Ok, Err, IfOk, OnOk, codes, refl, sym, ap, ◌∙◌, ◌≢◌}
+use Rattle.std.proofs.Common.{◌≡◌, Bool, ℕ, false, List, [], ◌∷◌, Result, Ok, Err, IfOk, OnOk, codes, refl, sym, ap, ◌∙◌, ◌≢◌}
 use Rattle.std.specs.Prelude.{is_some}
 use Rattle.serde_json.specs.Data.{Data}
 use Rattle.tt_values.specs.declared.statement.Write.{Write}
@@ -15,7 +15,7 @@ use Rattle.tt_grammar.specs.Members.{is_one_of}
 use Rattle.tt_grammar.specs.Arrays.{array_of}
 use Rattle.tt_grammar.specs.Changes.{change}
 use Rattle.tt_grammar.specs.Conditions.{value, table_named}
-use Rattle.tt_grammar.specs.Statements.{conditions, no_members_at, insert, update, delete}
+use Rattle.tt_grammar.specs.Statements.{conditions, stamp, no_members_at, insert, update, delete}
 use Rattle.tt_grammar.specs.Actions.{writes, is_whole, members_of_action, action}
 use Rattle.tt_grammar.proofs.KnownLemmas.{are_known, not_there}
 use Rattle.tt_requests.specs.declared.kinds.RequestKind.{RequestKind}
@@ -45,49 +45,56 @@ none-at : (names : List (List ℕ)) → is_one_of (codes "if" ∷ codes "worker"
 none-at names unknown v t e =
     ap is_some (not_there (is_one_of (codes "if" ∷ codes "worker" ∷ names)) (codes "version") v unknown (are_known (is_one_of (codes "if" ∷ codes "worker" ∷ names)) v e))
 
+-- an object of a request that writes, beside its stamp
+none-at-write : (names : List (List ℕ)) → is_one_of (codes "if" ∷ codes "worker" ∷ codes "stamp" ∷ names) (codes "version") ≡ false → HasNone (no_members_at contexts.WriteRequest names)
+none-at-write names unknown v t e =
+    let is_known : List ℕ → Bool = is_one_of (codes "if" ∷ codes "worker" ∷ codes "stamp" ∷ names) in
+    let stamped = step (stamp v) _ t e in
+    ap is_some (not_there is_known (codes "version") v unknown (are_known is_known v stamped.rest))
+
 -- ---- statements and actions
 
-insert-none : (tables : Tables) → HasNone (insert tables contexts.Request)
+insert-none : (tables : Tables) → HasNone (insert tables contexts.WriteRequest)
 unfolding insert
 insert-none tables v w e =
     let table = step (member (codes "insert") (table_named tables) v) _ w e in
     let values = step (member (codes "row") (array_of value) v) _ w table.rest in
-    let known = step (no_members_at contexts.Request (codes "insert" ∷ codes "row" ∷ []) v) _ w values.rest in
-    none-at (codes "insert" ∷ codes "row" ∷ []) refl v known.value known.is
+    let known = step (no_members_at contexts.WriteRequest (codes "insert" ∷ codes "row" ∷ []) v) _ w values.rest in
+    none-at-write (codes "insert" ∷ codes "row" ∷ []) refl v known.value known.is
 
-update-none : (version : Version) (tables : Tables) → HasNone (update version tables contexts.Request)
+update-none : (version : Version) (tables : Tables) → HasNone (update version tables contexts.WriteRequest)
 unfolding update
 update-none version tables v w e =
     let table = step (member (codes "update") (table_named tables) v) _ w e in
     let changes = step (member (codes "change") (array_of (change tables table.value)) v) _ w table.rest in
     let equals = step (conditions version tables table.value v) _ w changes.rest in
-    let known = step (no_members_at contexts.Request (codes "change" ∷ codes "update" ∷ codes "where" ∷ []) v) _ w equals.rest in
-    none-at (codes "change" ∷ codes "update" ∷ codes "where" ∷ []) refl v known.value known.is
+    let known = step (no_members_at contexts.WriteRequest (codes "change" ∷ codes "update" ∷ codes "where" ∷ []) v) _ w equals.rest in
+    none-at-write (codes "change" ∷ codes "update" ∷ codes "where" ∷ []) refl v known.value known.is
 
-delete-none : (version : Version) (tables : Tables) → HasNone (delete version tables contexts.Request)
+delete-none : (version : Version) (tables : Tables) → HasNone (delete version tables contexts.WriteRequest)
 unfolding delete
 delete-none version tables v w e =
     let table = step (member (codes "delete") (table_named tables) v) _ w e in
     let equals = step (conditions version tables table.value v) _ w table.rest in
-    let known = step (no_members_at contexts.Request (codes "delete" ∷ codes "where" ∷ []) v) _ w equals.rest in
-    none-at (codes "delete" ∷ codes "where" ∷ []) refl v known.value known.is
+    let known = step (no_members_at contexts.WriteRequest (codes "delete" ∷ codes "where" ∷ []) v) _ w equals.rest in
+    none-at-write (codes "delete" ∷ codes "where" ∷ []) refl v known.value known.is
 
-unknown-of_action : (version : Version) → is_one_of (codes "if" ∷ codes "worker" ∷ members_of_action version) (codes "version") ≡ false
+unknown-of_action : (version : Version) → is_one_of (codes "if" ∷ codes "worker" ∷ codes "stamp" ∷ members_of_action version) (codes "version") ≡ false
 unknown-of_action One = refl
 unknown-of_action Two = refl
 unknown-of_action Three = refl
 
-action-none : (version : Version) (tables : Tables) → HasNone (action version tables contexts.Request)
+action-none : (version : Version) (tables : Tables) → HasNone (action version tables contexts.WriteRequest)
 unfolding action
 action-none version tables v a e =
     let read = step (member (codes "do") (writes version tables) v) _ a e in
     let whole = step (is_whole version v) _ a read.rest in
-    let known = step (no_members_at contexts.Request (members_of_action version) v) _ a whole.rest in
-    none-at (members_of_action version) (unknown-of_action version) v known.value known.is
+    let known = step (no_members_at contexts.WriteRequest (members_of_action version) v) _ a whole.rest in
+    none-at-write (members_of_action version) (unknown-of_action version) v known.value known.is
 
 -- ---- commands, by their kinds
 
-one_write-none : (reading : Data → Result Write DocFault) → HasNone reading → HasNone (λ v. one_write (reading v))
+one_write-none : (reading : Data → Result Write DocFault) → HasNone reading → HasNone (λ v. one_write (reading v) v)
 unfolding one_write
 one_write-none reading none v asked e =
     let write = step (reading v) _ asked e in
@@ -96,7 +103,7 @@ one_write-none reading none v asked e =
 several_writes-none : (version : Version) (tables : Tables) → HasNone (several_writes version tables)
 unfolding several_writes
 several_writes-none version tables v asked e =
-    let read = step (action version tables contexts.Request v) _ asked e in
+    let read = step (action version tables contexts.WriteRequest v) _ asked e in
     action-none version tables v read.value read.is
 
 read-none : (version : Version) (tables : Tables) → HasNone (read version tables)
@@ -197,10 +204,9 @@ slots-none : (tables : Tables) → HasNone (slots tables)
 unfolding slots
 slots-none tables v asked e =
     let wanted = step (member (codes "slots") span v) _ asked e in
-    let worker = step (optional (codes "of") worker_number v) _ asked wanted.rest in
-    let row = step (optional (codes "row") (row_named tables) v) _ asked worker.rest in
-    let known = step (no_members_at contexts.Request (codes "of" ∷ codes "row" ∷ codes "slots" ∷ []) v) _ asked row.rest in
-    none-at (codes "of" ∷ codes "row" ∷ codes "slots" ∷ []) refl v known.value known.is
+    let filter = step (questions.slot_filter tables v) _ asked wanted.rest in
+    let known = step (no_members_at contexts.Request (codes "of" ∷ codes "row" ∷ codes "slots" ∷ codes "stamps" ∷ []) v) _ asked filter.rest in
+    none-at (codes "of" ∷ codes "row" ∷ codes "slots" ∷ codes "stamps" ∷ []) refl v known.value known.is
 
 changes-none : HasNone changes
 unfolding changes
@@ -213,9 +219,9 @@ changes-none v asked e =
 -- ---- a command, by its kind
 
 command_of-none : (version : Version) (tables : Tables) (kind : RequestKind) (v : Data) (asked : Command) → command_of version tables kind v ≡ Ok asked → has (codes "version") v ≡ false
-command_of-none version tables kinds.Insert v asked e = one_write-none (insert tables contexts.Request) (insert-none tables) v asked e
-command_of-none version tables kinds.Update v asked e = one_write-none (update version tables contexts.Request) (update-none version tables) v asked e
-command_of-none version tables kinds.Delete v asked e = one_write-none (delete version tables contexts.Request) (delete-none version tables) v asked e
+command_of-none version tables kinds.Insert v asked e = one_write-none (insert tables contexts.WriteRequest) (insert-none tables) v asked e
+command_of-none version tables kinds.Update v asked e = one_write-none (update version tables contexts.WriteRequest) (update-none version tables) v asked e
+command_of-none version tables kinds.Delete v asked e = one_write-none (delete version tables contexts.WriteRequest) (delete-none version tables) v asked e
 command_of-none version tables kinds.Select v asked e = read-none version tables v asked e
 command_of-none version tables kinds.Preview v asked e = preview-none version tables v asked e
 command_of-none version tables kinds.Do v asked e = several_writes-none version tables v asked e

@@ -67,7 +67,7 @@ delete_line = codes "{\"delete\":\"acct\",\"where\":[[\"id\",\">=\",1]]}"
 abbrev asks : Command → Result Request DocFault
 asks command = Ok (record { worker = 1; expected = None; command = command })
 
-deleted : (request_of Three accounts (value_of_line delete_line) ≡ asks (commands.Write deletes_once))
+deleted : (request_of Three accounts (value_of_line delete_line) ≡ asks (commands.Write deletes_once None))
     × (request_of Two accounts (value_of_line delete_line) ≡ Err (At (codes "$.where[0]") (codes "wrong type")))
 unfolding digits is_utf8 chars encode_utf8 lex content short_escape punctuate word after_number json.value json.items json.members scan_numeral number_of value_of_json value_of_line condition statements.delete one_write members_of_request
 deleted = (refl, refl)

@@ -55,7 +55,7 @@ abbrev asked_by : ℕ → Option ToldTime → Command → Result Request DocFaul
 asked_by worker expected command = Ok (record { worker = worker; expected = expected; command = command })
 
 abbrev writes_all : Bool → Result Request DocFault
-writes_all whole = asked_by 1 None (commands.Write (delete_all whole))
+writes_all whole = asked_by 1 None (commands.Write (delete_all whole) None)
 
 -- ---- actions
 
@@ -68,7 +68,7 @@ whole_or_not = (refl, refl, refl)
 
 -- beside a worker and the time that is expected, in any order
 beside_others : read_as Three (codes "{\"whole\":true,\"if\":3,\"do\":[{\"delete\":\"acct\",\"where\":[]}],\"worker\":7}")
-    ≡ asked_by 7 (Some (record { number = 3 })) (commands.Write (delete_all true))
+    ≡ asked_by 7 (Some (record { number = 3 })) (commands.Write (delete_all true) None)
 unfolding lines_are_read condition statements.delete actions.write actions.item_of_action actions.action several_writes members_of_request
 beside_others = refl
 

@@ -8,7 +8,7 @@ use Rattle.tt_requests.specs.declared.asked.ForgetRequest.{ForgetRequest}
 
 -- whether a command leaves the database as it is
 abbrev pub is_read_only : Command → Bool
-is_read_only (commands.Write action) = false
+is_read_only (commands.Write action stamp) = false
 is_read_only (commands.Begin edits) = false
 is_read_only (commands.Step most told) = false
 is_read_only (commands.Finish told) = false

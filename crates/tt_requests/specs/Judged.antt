@@ -20,7 +20,7 @@ pub record AreJudgedEdits (tables : Tables) (edits : List Edit) : Type 0 where
 
 -- neither an action nor a select has a fault, and the edits of a repair have been judged
 abbrev pub IsJudged : Tables → Command → Type 0
-IsJudged tables (commands.Write action) = action_fault tables action.writes ≡ None
+IsJudged tables (commands.Write action stamp) = action_fault tables action.writes ≡ None
 IsJudged tables (commands.Read select at generation page) = select_fault tables select ≡ None
 IsJudged tables (commands.Preview select page) = select_fault tables select ≡ None
 IsJudged tables (commands.Begin told) = AreJudgedEdits tables told.edits

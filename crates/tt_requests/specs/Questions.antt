@@ -17,6 +17,8 @@ use Rattle.tt_requests.specs.declared.request.CallKind.{CallKind}
 use Rattle.tt_requests.specs.declared.request.CallKind.TheVariants as call_kinds
 use Rattle.tt_requests.specs.declared.request.ChangePage.{ChangePage}
 use Rattle.tt_requests.specs.declared.request.Command.{Command}
+use Rattle.tt_requests.specs.declared.request.SlotFilter.{SlotFilter}
+use Rattle.tt_requests.specs.declared.request.StampRange.{StampRange}
 use Rattle.tt_requests.specs.declared.request.Command.TheVariants as commands
 use Rattle.tt_requests.specs.Told.{named_time}
 
@@ -56,14 +58,29 @@ row_named tables v = do
   key ← with_path (item_path 1) (int items.1)
   Ok (record { table = table; key = key })
 
--- a question about slots: which ones, of which worker, and which row they changed. The last two may be left out
+-- the lowest and the highest stamp
+unfoldable pub stamp_range : Data → Result StampRange DocFault
+stamp_range v = do
+  items ← pair v
+  low ← with_path (item_path 0) (count items.0)
+  high ← with_path (item_path 1) (count items.1)
+  Ok (record { low = low; high = high })
+
+-- which slots are asked for: of which worker, which row they changed, and within which stamps theirs is. Each may be left out
+unfoldable pub slot_filter : Tables → Data → Result SlotFilter DocFault
+slot_filter tables v = do
+  worker ← optional (codes "of") worker_number v
+  row ← optional (codes "row") (row_named tables) v
+  stamps ← optional (codes "stamps") stamp_range v
+  Ok (record { worker = worker; row = row; stamps = stamps })
+
+-- a question about slots: from which one to which one, and which of these
 unfoldable pub slots : Tables → Data → Result Command DocFault
 slots tables v = do
   span ← member (codes "slots") span v
-  worker ← optional (codes "of") worker_number v
-  row ← optional (codes "row") (row_named tables) v
-  _ ← no_members_at contexts.Request (codes "of" ∷ codes "row" ∷ codes "slots" ∷ []) v
-  Ok (commands.Slots span.0 span.1 worker row)
+  filter ← slot_filter tables v
+  _ ← no_members_at contexts.Request (codes "of" ∷ codes "row" ∷ codes "slots" ∷ codes "stamps" ∷ []) v
+  Ok (commands.Slots span.0 span.1 filter)
 
 -- when the calls would be answered again whose changed replies a text asks for: now, or after the repair under way
 abbrev pub changes_named : List ℕ → Option Moment

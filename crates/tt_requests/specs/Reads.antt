@@ -1,5 +1,5 @@
 -- The selects and previews of a session, which may ask for one page of their rows; and pages.
-use Rattle.std.specs.Prelude.{ℕ, [], ◌∷◌, Result, Ok, codes}
+use Rattle.std.specs.Prelude.{[], ◌∷◌, Result, Ok, codes}
 use Rattle.serde_json.specs.Data.{Data}
 use Rattle.tt_values.specs.declared.statement.Select.{Select}
 use Rattle.tt_values.specs.Tables.{Tables}

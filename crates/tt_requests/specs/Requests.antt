@@ -10,7 +10,7 @@ use Rattle.tt_grammar.specs.declared.statements.Context.TheVariants as contexts
 use Rattle.tt_grammar.specs.declared.version.Version.{Version}
 use Rattle.tt_grammar.specs.Fault.{◌>>=◌, refuse, with_path, document_path}
 use Rattle.tt_grammar.specs.Decoder.{object, flag, count_within, member, optional}
-use Rattle.tt_grammar.specs.Statements.{no_members_at, insert, update, delete}
+use Rattle.tt_grammar.specs.Statements.{stamp, no_members_at, insert, update, delete}
 use Rattle.tt_grammar.specs.Actions.{action_of_one, action}
 use Rattle.tt_requests.specs.declared.kinds.RequestKind.{RequestKind}
 use Rattle.tt_requests.specs.declared.kinds.RequestKind.TheVariants as kinds
@@ -23,17 +23,19 @@ use Rattle.tt_requests.specs.Edits.{edits}
 use Rattle.tt_requests.specs.Reads.{slot_page, diff_page, read, preview}
 use Rattle.tt_requests.specs.Questions.{worker_number, slots, changes}
 
--- a write of its own, as an action of one, which isn't whole
-unfoldable pub one_write : Result Write DocFault → Result Command DocFault
-one_write reading = do
+-- a write of its own, as an action of one, which isn't whole, and its stamp
+unfoldable pub one_write : Result Write DocFault → Data → Result Command DocFault
+one_write reading v = do
   write ← reading
-  Ok (commands.Write (action_of_one write))
+  stamp ← stamp v
+  Ok (commands.Write (action_of_one write) stamp)
 
--- an action of several writes, which may be whole
+-- an action of several writes, which may be whole, and its stamp
 unfoldable pub several_writes : Version → Tables → Data → Result Command DocFault
 several_writes version tables v = do
-  action ← action version tables contexts.Request v
-  Ok (commands.Write action)
+  action ← action version tables contexts.WriteRequest v
+  stamp ← stamp v
+  Ok (commands.Write action stamp)
 
 -- the beginning of a repair: its edits
 unfoldable pub begin : Version → Tables → Data → Result Command DocFault
@@ -121,9 +123,9 @@ would version tables v = do
 
 -- the command of an object of this kind
 abbrev pub command_of : Version → Tables → RequestKind → Data → Result Command DocFault
-command_of version tables kinds.Insert v = one_write (insert tables contexts.Request v)
-command_of version tables kinds.Update v = one_write (update version tables contexts.Request v)
-command_of version tables kinds.Delete v = one_write (delete version tables contexts.Request v)
+command_of version tables kinds.Insert v = one_write (insert tables contexts.WriteRequest v) v
+command_of version tables kinds.Update v = one_write (update version tables contexts.WriteRequest v) v
+command_of version tables kinds.Delete v = one_write (delete version tables contexts.WriteRequest v) v
 command_of version tables kinds.Select v = read version tables v
 command_of version tables kinds.Preview v = preview version tables v
 command_of version tables kinds.Do v = several_writes version tables v

@@ -16,7 +16,7 @@ use std::alloc::Global;
 use tt_grammar::DocFault;
 use tt_grammar::decoding::{
     Context, CountDecoder, Decoder, FlagDecoder, OUT_OF_RANGE, Version, action, action_of_one,
-    delete, insert, member, no_members_but, optional, update,
+    delete, insert, member, no_members_but, optional, stamp, update,
 };
 use tt_json::{JsonValue, root};
 use tt_values::{Catalog, Write};
@@ -53,16 +53,16 @@ fn command_of<V: JsonValue>(
 {
     match kind {
         RequestKind::Insert => {
-            let write = insert(alloc, catalog, Context::Request, value)?;
-            one_write(alloc, write)
+            let write = insert(alloc, catalog, Context::WriteRequest, value)?;
+            one_write(alloc, write, value)
         }
         RequestKind::Update => {
-            let write = update(alloc, version, catalog, Context::Request, value)?;
-            one_write(alloc, write)
+            let write = update(alloc, version, catalog, Context::WriteRequest, value)?;
+            one_write(alloc, write, value)
         }
         RequestKind::Delete => {
-            let write = delete(alloc, version, catalog, Context::Request, value)?;
-            one_write(alloc, write)
+            let write = delete(alloc, version, catalog, Context::WriteRequest, value)?;
+            one_write(alloc, write, value)
         }
         RequestKind::Select => read(alloc, version, catalog, value),
         RequestKind::Preview => preview(alloc, version, catalog, value),
@@ -82,13 +82,14 @@ fn command_of<V: JsonValue>(
     }
 }
 
-/// A write of its own, as an action of one, which isn't whole.
+/// A write of its own, as an action of one, which isn't whole, and its stamp.
 #[tactic(auto, unfolding(crate::specs::Requests::one_write))]
-fn one_write(alloc: Global, write: Write) -> Result<Command, DocFault>
-    ensures { Gives result (one_write (Ok write)) }
+fn one_write<V: JsonValue>(alloc: Global, write: Write, value: &V) -> Result<Command, DocFault>
+    ensures { Gives result (one_write (Ok write) (V.json value.now)) }
 {
     let action = action_of_one(alloc, write)?;
-    Ok(Command::Write(action))
+    let stamp = stamp(alloc, value)?;
+    Ok(Command::Write { action, stamp })
 }
 
 #[tactic(auto, unfolding(crate::specs::Requests::several_writes))]
@@ -100,8 +101,9 @@ fn several_writes<V: JsonValue>(
 ) -> Result<Command, DocFault>
     ensures { Gives result (several_writes version catalog.now (V.json value.now)) }
 {
-    let action = action(alloc, version, catalog, Context::Request, value)?;
-    Ok(Command::Write(action))
+    let action = action(alloc, version, catalog, Context::WriteRequest, value)?;
+    let stamp = stamp(alloc, value)?;
+    Ok(Command::Write { action, stamp })
 }
 
 #[tactic(auto, unfolding(crate::specs::Requests::begin))]

@@ -26,7 +26,10 @@ pub use lines::{is_blank, is_passed_over};
 pub use log_opening::LogOpening;
 pub use numbering::{NUMBER_LIMIT, Numbering};
 pub use opening::Opening;
-pub use request::{CallKind, ChangePage, Command, DiffPage, Page, Request, SlotPage, ToldEdits};
+pub use request::{
+    CallKind, ChangePage, Command, DiffPage, Page, Request, SlotFilter, SlotPage, StampRange,
+    ToldEdits,
+};
 pub use session_line::SessionLine;
 pub use told::{ToldGeneration, ToldTime};
 pub use told_edits::{missing_slot, own_edits};

@@ -1,11 +1,11 @@
 //! Reading of questions about slots and about calls.
 ghost use Rattle.std.specs.Prelude.{◌≡◌};
 ghost use Rattle.tt_grammar.specs.Fault.{Gives};
-ghost use Rattle.tt_requests.specs.Questions.{within_span, span, row_named, slots, changes_at, changes_named, changes_asked, call_kind_named, call_kind, change_page, changes};
+ghost use Rattle.tt_requests.specs.Questions.{within_span, span, row_named, stamp_range, slot_filter, slots, changes_at, changes_named, changes_asked, call_kind_named, call_kind, change_page, changes};
 
 use crate::MAX_SPAN;
 use crate::reads::MOST;
-use crate::request::{CallKind, ChangePage, Command};
+use crate::request::{CallKind, ChangePage, Command, SlotFilter, StampRange};
 use crate::told::{ToldTime, ToldTimeDecoder};
 use std::alloc::Global;
 use tt_grammar::DocFault;
@@ -32,15 +32,50 @@ pub(crate) fn slots<V: JsonValue>(
     ensures { Gives result (slots catalog.now (V.json value.now)) }
 {
     let (from, to) = member(alloc, value, "slots", &SpanDecoder)?;
+    let filter = slot_filter(alloc, catalog, value)?;
+    no_members_but(
+        alloc,
+        value,
+        &["if", "worker", "of", "row", "slots", "stamps"],
+    )?;
+    Ok(Command::Slots { from, to, filter })
+}
+
+/// Which slots an object asks for, beside the first and the last one.
+#[tactic(auto, unfolding(crate::specs::Questions::slot_filter))]
+fn slot_filter<V: JsonValue>(
+    alloc: Global,
+    catalog: &Catalog,
+    value: &V,
+) -> Result<SlotFilter, DocFault>
+    ensures { Gives result (slot_filter catalog.now (V.json value.now)) }
+{
     let worker = optional(alloc, value, "of", &WORKER)?;
     let row = optional(alloc, value, "row", &RowIdDecoder { catalog })?;
-    no_members_but(alloc, value, &["if", "worker", "of", "row", "slots"])?;
-    Ok(Command::Slots {
-        from,
-        to,
+    let stamps = optional(alloc, value, "stamps", &StampRangeDecoder)?;
+    Ok(SlotFilter {
         worker,
         row,
+        stamps,
     })
+}
+
+/// The lowest and the highest stamp.
+#[derive(Drop)]
+struct StampRangeDecoder;
+
+impl Decoder for StampRangeDecoder {
+    type Output = StampRange;
+
+    ghost meaning = { λ _. stamp_range };
+
+    #[tactic(auto, unfolding(crate::specs::Questions::stamp_range))]
+    fn decode<V: JsonValue>(&self, alloc: Global, value: &V) -> Result<StampRange, DocFault> {
+        let (first, second) = pair(alloc, value)?;
+        let low = item(alloc, 0, &first, &AnyCountDecoder)?;
+        let high = item(alloc, 1, &second, &AnyCountDecoder)?;
+        Ok(StampRange { low, high })
+    }
 }
 
 /// The numbers of the first and the last slot.

@@ -32,7 +32,11 @@ pub struct Request {
 pub enum Command {
     /// An action: at most [`MAX_WRITES`](tt_values::MAX_WRITES) writes, carried out in order as
     /// one slot, wholly or not at all if it is whole.
-    Write(Action),
+    Write {
+        action: Action,
+        /// What the service counts by, most often the milliseconds of its clock, where it is given.
+        stamp: Option<u64>,
+    },
     /// Rows of a table, in the current generation or an older one.
     Read {
         select: Select,
@@ -72,10 +76,7 @@ pub enum Command {
     Slots {
         from: ToldTime,
         to: ToldTime,
-        /// Those of one worker, where it is given.
-        worker: Option<u32>,
-        /// Those that changed a row, where it is given.
-        row: Option<RowId>,
+        filter: SlotFilter,
     },
     /// The calls that are answered differently now.
     Changes(ChangePage),
@@ -111,7 +112,7 @@ impl Command {
         ensures { result ≡ is_read_only self.now }
     {
         match self {
-            Command::Write(_) => false,
+            Command::Write { .. } => false,
             Command::Begin(_) => false,
             Command::Step { .. } => false,
             Command::Finish { .. } => false,
@@ -166,6 +167,24 @@ pub struct Page {
     pub after: Option<i64>,
     /// The first rows, this many, from 1 to [`MAX_PAGE`](crate::MAX_PAGE), where it is given.
     pub most: Option<u32>,
+}
+
+/// Which slots are asked for.
+#[derive(Clone, Copy, Debug, PartialEq, Eq)]
+pub struct SlotFilter {
+    /// Those of one worker, where it is given.
+    pub worker: Option<u32>,
+    /// Those that changed a row, where it is given.
+    pub row: Option<RowId>,
+    /// Those with a stamp in a range, where it is given.
+    pub stamps: Option<StampRange>,
+}
+
+/// The stamps from one to another, both among them; none where the low one is higher.
+#[derive(Clone, Copy, Debug, PartialEq, Eq)]
+pub struct StampRange {
+    pub low: u64,
+    pub high: u64,
 }
 
 /// Which of the re-executed slots are asked for.

@@ -1,7 +1,8 @@
--- What becomes of the database, and of how its numbers are told: it depends on these two alone, and what only reads leaves both.
+-- What becomes of the database, of how its numbers are told, and of the stamps: it depends on these three alone, and what only reads leaves them.
 use Rattle.std.proofs.Common.{◌≡◌, ◌⊎◌, ℕ, zero, suc, ◌+◌, ◌<◌, ◌≤◌, ◌==◌, ◌&&◌, Bool, true, false, cond, List, [], ◌∷◌, length, map, replicate, append-nil, length-append, Option, None, Some, Result, Ok, Err, inl, inr, refl, sym, ap, ◌∙◌, arith, ne_eqb}
 use Rattle.std.specs.Option.{option_map, unwrap_or}
 use Rattle.std.proofs.lemmas.List.{length-replicate}
+use Rattle.tt_values.specs.declared.action.Action.{Action}
 use Rattle.tt_values.specs.declared.reply.Reply.{Reply}
 use Rattle.tt_values.specs.declared.statement.Select.{Select}
 use Rattle.tt_repair_laws.specs.declared.edit.Edit.{Edit}
@@ -28,7 +29,7 @@ use Rattle.tt_answers.specs.declared.answer.Answer.{Answer}
 use Rattle.tt_answers.specs.declared.answer.Answer.TheVariants as answers
 use Rattle.tt_session.specs.declared.session.Session.TheVariants.{Open}
 use Rattle.tt_commands.specs.Answers.{Answered}
-use Rattle.tt_commands.specs.Commands.{carried_out, moved_to, outcome_of_request, unless_moved}
+use Rattle.tt_commands.specs.Commands.{written, carried_out, moved_to, outcome_of_request, unless_moved}
 use Rattle.tt_requests.specs.Asked.{asks_read_only, is_read_only, repair_worker_told}
 use Rattle.tt_commands.specs.Reading.{read, previewed_by, selected_by}
 use Rattle.tt_commands.specs.AskedRepairs.{asked_repair, answer_of}
@@ -46,15 +47,16 @@ use Rattle.tt_commands.specs.Session.{OpenSession, Forgetting, state_in}
 use Rattle.tt_session.proofs.TogetherLemmas.{open-same}
 use Rattle.tt_session.proofs.LoggedLemmas.{same-next}
 
--- ---- what becomes of the database, and of how its numbers are told
+-- ---- what becomes of the database, of how its numbers are told, and of the stamps
 
 -- what the answers to requests depend on, apart from records and the number of the call
 pub record Base : Type 0 where
   pub database : Database
   pub numbering : Numbering
+  pub stamps : List (Option ℕ)
 
 abbrev pub base_of : OpenSession → Base
-base_of session = record { database = session.database; numbering = session.numbering }
+base_of session = record { database = session.database; numbering = session.numbering; stamps = session.stamps }
 
 abbrev pub outcome_base : Base → Result Answered Refusal → Base
 outcome_base base (Ok answered) = base_of answered.session
@@ -69,7 +71,7 @@ abbrev pub Goes : Base → Base → Type 0
 Goes base new = (new ≡ base) ⊎ (is_as_far new base ≡ false)
 
 abbrev pub with_db : Base → Database → Base
-with_db base db = record { database = db; numbering = base.numbering }
+with_db base db = record base { database = db }
 
 pub longer-goes : (base : Base) (db : Database) → length base.database.history < length db.history → Goes base (with_db base db)
 longer-goes base db more =
@@ -87,6 +89,13 @@ steps-longer db worker count = omega (arith, length-append db.history (replicate
 
 pub event-goes : (base : Base) (worker : ℕ) (event : Event) → Goes base (with_db base (with_event base.database worker event))
 event-goes base worker event = longer-goes base (with_event base.database worker event) (event-longer base.database worker event)
+
+-- an action, whether its slot has a stamp or none
+pub write-goes : (session : OpenSession) (worker : ℕ) (action : Action) (stamp : Option ℕ) → Goes (base_of session) (base_of (written session worker action stamp).session)
+write-goes session worker action None = event-goes (base_of session) worker (events.Write action)
+write-goes session worker action (Some s) =
+    inr (ap (λ b. b && (session.numbering.horizon == session.numbering.horizon))
+    (ne_eqb (length (with_event session.database worker (events.Write action)).history + 1) (length session.database.history + 1) (λ e. omega (arith, e, event-longer session.database worker (events.Write action)))))
 
 pub begin-goes : (base : Base) (worker count : ℕ) (event : Event) → Goes base (with_db base (with_steps (with_event base.database worker event) worker count))
 begin-goes base worker count event =
@@ -179,7 +188,7 @@ forget-goes session time = refused (forget_refusal session time)
     refused (Some refusal) = inl refl
 
 pub carried-goes : (session : OpenSession) (worker : ℕ) (command : Command) → Goes (base_of session) (outcome_base (base_of session) (carried_out session worker command))
-carried-goes session worker (commands.Write action) = refused-goes (base_of session) (refusal_in_session session.database (events.Write action)) _ (event-goes (base_of session) worker (events.Write action))
+carried-goes session worker (commands.Write action stamp) = refused-goes (base_of session) (refusal_in_session session.database (events.Write action)) _ (write-goes session worker action stamp)
 carried-goes session worker (commands.Read q at generation page) = inl (read-stays session worker q generation at page)
 carried-goes session worker (commands.Preview q page) = inl (previewed-stays session page (right_preview_of session.database q))
 carried-goes session worker (commands.Begin told) =
@@ -189,7 +198,7 @@ carried-goes session worker (commands.Step most told) = refused-goes (base_of se
 carried-goes session worker (commands.Finish told) = refused-goes (base_of session) (unless_repairing (state_in session).phase) _ (switch-goes (base_of session) worker)
 carried-goes session worker (commands.Abort told) = refused-goes (base_of session) (unless_repairing (state_in session).phase) _ (event-goes (base_of session) worker events.Abort)
 carried-goes session worker commands.Status = inl refl
-carried-goes session worker (commands.Slots from to by row) = inl refl
+carried-goes session worker (commands.Slots from to filter) = inl refl
 carried-goes session worker (commands.Changes page) = inl refl
 carried-goes session worker (commands.NextChanges page) = refused-goes (base_of session) (unless_repairing (state_in session).phase) _ (inl refl)
 carried-goes session worker commands.Tables = inl refl
@@ -208,7 +217,7 @@ another-goes base (Some worker) outcome goes = inl refl
 
 -- it is the same whatever the records, the number of the call and the openings
 abbrev pub session_of : Base → Bool → List Record → ℕ → ℕ → OpenSession
-session_of base has_opening records most calls = record { has_opening = has_opening; database = base.database; numbering = base.numbering; records = records; most_records = most; calls = calls }
+session_of base has_opening records most calls = record { has_opening = has_opening; database = base.database; numbering = base.numbering; stamps = base.stamps; records = records; most_records = most; calls = calls }
 
 pub refused-same : (base : Base) (refusal : Option DbError) (a b : Answered) → base_of a.session ≡ base_of b.session → outcome_base base (unless_refused refusal a) ≡ outcome_base base (unless_refused refusal b)
 refused-same base None a b same = same
@@ -240,8 +249,12 @@ module _ (base : Base) (v w : Bool) (r q : List Record) (m l n k : ℕ) where
       go true = refl
       go false = refl
 
+  pub written-same : (worker : ℕ) (action : Action) (stamp : Option ℕ) → base_of (written one worker action stamp).session ≡ base_of (written other worker action stamp).session
+  written-same worker action None = refl
+  written-same worker action (Some s) = refl
+
   pub carried-same : (worker : ℕ) (command : Command) → outcome_base base (carried_out one worker command) ≡ outcome_base base (carried_out other worker command)
-  carried-same worker (commands.Write action) = refused-same base (refusal_in_session base.database (events.Write action)) _ _ refl
+  carried-same worker (commands.Write action stamp) = refused-same base (refusal_in_session base.database (events.Write action)) _ _ (written-same worker action stamp)
   carried-same worker (commands.Read q at generation page) = read-stays one worker q generation at page ∙ sym (read-stays other worker q generation at page)
   carried-same worker (commands.Preview q page) = previewed-stays one page (right_preview_of base.database q) ∙ sym (previewed-stays other page (right_preview_of base.database q))
   carried-same worker (commands.Begin told) =
@@ -250,7 +263,7 @@ module _ (base : Base) (v w : Bool) (r q : List Record) (m l n k : ℕ) where
   carried-same worker (commands.Finish told) = refused-same base (unless_repairing (state_in one).phase) _ _ refl
   carried-same worker (commands.Abort told) = refused-same base (unless_repairing (state_in one).phase) _ _ refl
   carried-same worker commands.Status = refl
-  carried-same worker (commands.Slots from to by row) = refl
+  carried-same worker (commands.Slots from to filter) = refl
   carried-same worker (commands.Changes page) = refl
   carried-same worker (commands.NextChanges page) = refused-same base (unless_repairing (state_in one).phase) _ _ refl
   carried-same worker commands.Tables = refl
@@ -314,7 +327,7 @@ another-stays base None outcome same = same
 another-stays base (Some worker) outcome same = refl
 
 pub carried-stays : (session : OpenSession) (worker : ℕ) (command : Command) → is_read_only command ≡ true → outcome_base (base_of session) (carried_out session worker command) ≡ base_of session
-carried-stays session worker (commands.Write action) reads = cc
+carried-stays session worker (commands.Write action stamp) reads = cc
 carried-stays session worker (commands.Read q at generation page) reads = read-stays session worker q generation at page
 carried-stays session worker (commands.Preview q page) reads = previewed-stays session page (right_preview_of session.database q)
 carried-stays session worker (commands.Begin told) reads = cc
@@ -322,7 +335,7 @@ carried-stays session worker (commands.Step most told) reads = cc
 carried-stays session worker (commands.Finish told) reads = cc
 carried-stays session worker (commands.Abort told) reads = cc
 carried-stays session worker commands.Status reads = refl
-carried-stays session worker (commands.Slots from to by row) reads = refl
+carried-stays session worker (commands.Slots from to filter) reads = refl
 carried-stays session worker (commands.Changes page) reads = refl
 carried-stays session worker (commands.NextChanges page) reads = refused-stays (base_of session) (unless_repairing (state_in session).phase) _ refl
 carried-stays session worker commands.Tables reads = refl

@@ -1,6 +1,7 @@
 -- A database that has come from an earlier one by further entries, and one that is made again.
 use Rattle.std.proofs.Common.{◌≡◌, ℕ, ◌+◌, ◌≤◌, Bool, true, false, IfSome, OnOk, OnErr, is_err, List, [], ◌∷◌, ◌++◌, length, drop, map, replicate, append-nil, append_assoc, length-append, Option, None, Some, Result, Ok, Err, slice_get, add-one, refl, sym, ap, ◌∙◌, subst, arith}
 use Rattle.tt_db.proofs.ClosedLemmas.{drop_at_item}
+use Rattle.tt_values.specs.declared.action.Action.{Action}
 use Rattle.tt_db.specs.declared.event.Event.{Event}
 use Rattle.tt_db.specs.declared.event.Event.TheVariants as events
 use Rattle.tt_db.specs.declared.event.Entry.{Entry}
@@ -14,7 +15,7 @@ use Rattle.tt_requests.specs.declared.request.Request.{Request}
 use Rattle.tt_requests.specs.declared.told.ToldTime.{ToldTime}
 use Rattle.tt_answers.specs.declared.answer.Refusal.{Refusal}
 use Rattle.tt_commands.specs.Answers.{Answered}
-use Rattle.tt_commands.specs.Commands.{carried_out, moved_to, unless_moved}
+use Rattle.tt_commands.specs.Commands.{written, carried_out, moved_to, unless_moved}
 use Rattle.tt_requests.specs.Asked.{is_forget, asks_to_forget, repair_worker_told}
 use Rattle.tt_commands.specs.Repairing.{entry_by, unless_refused, other_worker, unless_of_another, with_event, with_steps, with_all_steps}
 use Rattle.tt_commands.specs.Room.{refusal_in_session}
@@ -54,6 +55,10 @@ refused-comes : (base : Base) (refusal : Option DbError) (a : Answered) → Come
 refused-comes base None a comes = comes
 refused-comes base (Some error) a comes = comes-self base.database
 
+write-comes : (session : OpenSession) (worker : ℕ) (action : Action) (stamp : Option ℕ) → Comes (base_of session) (base_of (written session worker action stamp).session)
+write-comes session worker action None = event-comes session.database worker (events.Write action)
+write-comes session worker action (Some s) = event-comes session.database worker (events.Write action)
+
 missing-comes : (base : Base) (missing : Option ToldTime) (outcome : Result Answered Refusal) → Comes base (outcome_base base outcome) → Comes base (outcome_base base (unless_missing missing outcome))
 missing-comes base None outcome comes = comes
 missing-comes base (Some slot) outcome comes = comes-self base.database
@@ -70,7 +75,7 @@ stays-comes : (base new : Base) → new ≡ base → Comes base new
 stays-comes base new is = subst (Comes base) (sym is) (comes-self base.database)
 
 carried-comes : (session : OpenSession) (worker : ℕ) (command : Command) → is_forget command ≡ false → Comes (base_of session) (outcome_base (base_of session) (carried_out session worker command))
-carried-comes session worker (commands.Write action) other = refused-comes (base_of session) (refusal_in_session session.database (events.Write action)) _ (event-comes session.database worker (events.Write action))
+carried-comes session worker (commands.Write action stamp) other = refused-comes (base_of session) (refusal_in_session session.database (events.Write action)) _ (write-comes session worker action stamp)
 carried-comes session worker (commands.Read q at generation page) other = stays-comes (base_of session) _ (carried-stays session worker (commands.Read q at generation page) refl)
 carried-comes session worker (commands.Preview q page) other = stays-comes (base_of session) _ (carried-stays session worker (commands.Preview q page) refl)
 carried-comes session worker (commands.Begin told) other =
@@ -84,7 +89,7 @@ carried-comes session worker (commands.Finish told) other =
     refused-comes (base_of session) (unless_repairing (state_in session).phase) _ (comes-trans session.database all _ (steps-come session.database worker _) (event-comes all worker events.Switch))
 carried-comes session worker (commands.Abort told) other = refused-comes (base_of session) (unless_repairing (state_in session).phase) _ (event-comes session.database worker events.Abort)
 carried-comes session worker commands.Status other = comes-self session.database
-carried-comes session worker (commands.Slots from to by row) other = comes-self session.database
+carried-comes session worker (commands.Slots from to filter) other = comes-self session.database
 carried-comes session worker (commands.Changes page) other = comes-self session.database
 carried-comes session worker (commands.NextChanges page) other = refused-comes (base_of session) (unless_repairing (state_in session).phase) _ (comes-self session.database)
 carried-comes session worker commands.Tables other = comes-self session.database

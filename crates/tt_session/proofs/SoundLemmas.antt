@@ -20,11 +20,12 @@ use Rattle.tt_commands.specs.Repairing.{status_of}
 use Rattle.tt_session.specs.Reopening.{asks_for}
 use Rattle.tt_commands.specs.Session.{with_most_records, reopened_by}
 use Rattle.tt_session.specs.Run.{Turn, turn_by_opening, turn_by_outcome, turn_by_reopening, turn_by_request, turn_by_value, turn_without_memory, Losses, lacks_memory, is_lost_opening, turn_of_line, turn_of_lines}
+use Rattle.tt_commands.specs.Records.{last_records}
 use Rattle.tt_commands.specs.Invariants.{IsOpenSession}
 use Rattle.tt_session.specs.Invariants.{IsSession, OpenSessionsStaySound, SessionsStaySound}
 use Rattle.tt_session.proofs.OpeningLemmas.{IsOpening}
 use Rattle.tt_session.proofs.OpeningLemmas as openings
-use Rattle.tt_commands.proofs.GoingOnLemmas.{few_last, requests_keep_sessions_sound}
+use Rattle.tt_commands.proofs.GoingOnLemmas.{kept-sound, requests_keep_sessions_sound}
 
 -- an open session is one, whatever it is asked
 pub open_sessions_stay_sound : OpenSessionsStaySound
@@ -45,6 +46,7 @@ opened-sound opening is = record {
   numbered = record { within = omega arith; time = omega arith; generation = omega arith };
   few_records = omega arith;
   few_kept = is.records;
+  few_rows = omega arith;
 }
 
 opening-sound : (value : Result Data DocFault) → IsSession (turn_by_opening (opening_of value)).session
@@ -59,16 +61,7 @@ reopened-sound session opening sound few = by session.has_opening
   where
     by : (had : Bool) → IsOpenSession (cond had session (record (with_most_records session opening.records) { has_opening = true }))
     by true = sound
-    by false = record {
-      catalog = sound.catalog;
-      fits = sound.fits;
-      edits = sound.edits;
-      legal = sound.legal;
-      room = sound.room;
-      numbered = sound.numbered;
-      few_records = few_last opening.records session.records;
-      few_kept = few;
-    }
+    by false = kept-sound session.database session.numbering session.records session.records (last_records opening.records session.records) session.most_records opening.records sound few refl
 
 reopening-sound : (session : OpenSession) (value : Result Data DocFault) → IsOpenSession session → IsSession (turn_by_reopening session (opening_of value)).session
 reopening-sound session value sound = by (opening_of value) refl

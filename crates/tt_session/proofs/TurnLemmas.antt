@@ -40,23 +40,24 @@ asked-request session value request asks = requests_are_no_openings newest_versi
 
 -- ---- an opening in an open session
 
--- the session after it is open, and has the same database, numbers and calls
+-- the session after it is open, and has the same database, numbers, stamps and calls
 pub record Reopened (session : OpenSession) (turn : Turn) : Type 0 where
   pub next : OpenSession
   pub is : turn.session ≡ sessions.Open next
   pub database : next.database ≡ session.database
   pub numbering : next.numbering ≡ session.numbering
+  pub stamps : next.stamps ≡ session.stamps
   pub calls : next.calls ≡ session.calls
 
 stays : (session : OpenSession) (text : List ℕ) → Reopened session (record { text = text; session = sessions.Open session })
-stays session text = record { next = session; is = refl; database = refl; numbering = refl; calls = refl }
+stays session text = record { next = session; is = refl; database = refl; numbering = refl; stamps = refl; calls = refl }
 
 taken : (session : OpenSession) (opening : Opening) (text : List ℕ) → Reopened session (record { text = text; session = sessions.Open (reopened_by session opening) })
 taken session opening text = by session.has_opening
   where
     by : (had : Bool) → Reopened session (record { text = text; session = sessions.Open (cond had session (record (with_most_records session opening.records) { has_opening = true })) })
     by true = stays session text
-    by false = record { next = record (with_most_records session opening.records) { has_opening = true }; is = refl; database = refl; numbering = refl; calls = refl }
+    by false = record { next = record (with_most_records session opening.records) { has_opening = true }; is = refl; database = refl; numbering = refl; stamps = refl; calls = refl }
 
 pub reopening-next : (session : OpenSession) (asked : Result Opening DocFault) → Reopened session (turn_by_reopening session asked)
 reopening-next session (Err fault) = stays session (opening_text session.numbering (answers.Faulty fault))

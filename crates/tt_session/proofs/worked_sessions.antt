@@ -1,6 +1,7 @@
 mod Asking
 mod Transcript
 mod Forgetting
+mod Stamps
 mod Openings
 mod Faults
 mod Repairs

@@ -125,7 +125,10 @@ fn carry_out_asked(
         Ok(request) => request,
         Err(fault) => {
             push_answer(session, text, &Answer::Faulty(fault))?;
-            return Ok(SessionChange::Latest(None));
+            return Ok(SessionChange::Latest {
+                record: None,
+                stamped: None,
+            });
         }
     };
     match outcome_of_request(session, request) {
@@ -135,7 +138,10 @@ fn carry_out_asked(
         }
         Err(Failure::Refused(refusal)) => {
             push_answer(session, text, &Answer::Refused(refusal))?;
-            Ok(SessionChange::Latest(None))
+            Ok(SessionChange::Latest {
+                record: None,
+                stamped: None,
+            })
         }
         Err(Failure::Memory) => Err(AllocError),
     }
@@ -152,7 +158,7 @@ fn push_answer_behind(
         ++ (turn_of_answer (with_change session.now change.now) answer.now).text) }
 {
     match change {
-        SessionChange::Latest(_) => push_answer(session, text, answer),
+        SessionChange::Latest { .. } => push_answer(session, text, answer),
         SessionChange::Forgetting(forgetting) => {
             let behind = forgetting.get();
             push_call(
@@ -160,6 +166,7 @@ fn push_answer_behind(
                 behind.db.catalog(),
                 behind.numbering,
                 session.calls(),
+                None,
                 answer,
             )
         }
@@ -180,6 +187,7 @@ pub(crate) fn push_answer(
         session.db().catalog(),
         session.numbering(),
         session.calls(),
+        None,
         answer,
     )
 }

@@ -89,6 +89,7 @@ fn answer_to_forget(
                 catalog,
                 behind.numbering,
                 session.calls(),
+                None,
                 &answer,
             )?;
         }

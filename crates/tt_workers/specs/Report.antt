@@ -16,14 +16,14 @@ use Rattle.tt_store.specs.Closing.{IsOfWorker}
 use Rattle.tt_document.specs.declared.document.Document.{Document}
 use Rattle.tt_document.specs.declared.document.Plan.{Plan}
 use Rattle.tt_document.specs.declared.document.Call.{Call}
-use Rattle.tt_workload.specs.Records.{text_of_records, text_of_changes}
+use Rattle.tt_workload.specs.Records.{lines_of_records, lines_of_changes}
 use Rattle.tt_workload.specs.History.{entries_of, history_of, edit_of_slot, administrator}
 use Rattle.tt_workload.specs.declared.options.Options.{Options}
 use Rattle.tt_workload.specs.declared.told_repair.ToldRepair.{ToldRepair}
 use Rattle.tt_workload.specs.declared.told_repair.ToldRepair.TheVariants.{ThatClosed}
 use Rattle.tt_workload.specs.CauseLines.{redone_lines_if}
 use Rattle.tt_workload.specs.DiffLines.{diff_lines_if}
-use Rattle.tt_workload.specs.Report.{repair_text, closed_lines_if, last_lines}
+use Rattle.tt_workload.specs.Report.{line_of_repair, closed_lines_if, last_lines}
 use Rattle.tt_workers.specs.declared.report.Report.{Report}
 use Rattle.tt_workers.specs.Calls.{made_by, seen_after, record_at}
 
@@ -96,20 +96,20 @@ abbrev pub told_repair : Repaired → ToldRepair
 told_repair r = ThatClosed (r.generation - 1)
 
 -- the lines of a repair on a later database, if there was one: its own, and one for each slot that it re-executed where these are asked for
-abbrev pub repair_lines_if : Bool → Database → Option Repaired → List ℕ
-repair_lines_if why db None = []
-repair_lines_if why db (Some r) = repair_text r.generation r.slots r.rerun ++ redone_lines_if why db (told_repair r)
+abbrev pub repair_lines_if : Options → Database → Option Repaired → List ℕ
+repair_lines_if options db None = []
+repair_lines_if options db (Some r) = line_of_repair options.json r.generation r.slots r.rerun ++ redone_lines_if options db (told_repair r)
 
 -- the lines of the rows that differ by a repair, if there was one, where these are asked for
-abbrev pub diff_of_repair_if : Bool → Database → Option Repaired → List ℕ
-diff_of_repair_if diff db None = []
-diff_of_repair_if diff db (Some r) = diff_lines_if diff db (told_repair r)
+abbrev pub diff_of_repair_if : Options → Database → Option Repaired → List ℕ
+diff_of_repair_if options db None = []
+diff_of_repair_if options db (Some r) = diff_lines_if options db (told_repair r)
 
 -- the text of a report: a line for each call, those of the repair, one for each changed reply, one for each row that differs and those of
 -- the closed generations where these are asked for, one for each table, and the last one
 abbrev pub text_of_report : Options → Report → List ℕ
 text_of_report options report =
-    text_of_records report.records.items
-    ++ (repair_lines_if options.why report.db report.repaired
-    ++ (text_of_changes report.changes.items
-    ++ (diff_of_repair_if options.diff report.db report.repaired ++ (closed_lines_if options.closed report.db ++ last_lines report.db))))
+    lines_of_records options.json report.db.catalog report.records.items
+    ++ (repair_lines_if options report.db report.repaired
+    ++ (lines_of_changes options.json report.db.catalog report.records.items report.changes.items
+    ++ (diff_of_repair_if options report.db report.repaired ++ (closed_lines_if options report.db ++ last_lines options.json report.db))))

@@ -1,4 +1,4 @@
-//! The text of a report.
+//! The text of a report, which may be lines of JSON.
 ghost use Rattle.std.specs.Prelude.{◌≡◌, ◌++◌, OnOk, IfOk, IfErr};
 ghost use Rattle.tt_workers.specs.Report.{told_repair, repair_lines_if, diff_of_repair_if, text_of_report};
 
@@ -25,11 +25,13 @@ pub fn text_of_report(
 {
     let mut out = Vec::new(alloc);
     let db = report.db.get();
-    push_records(&mut out, &report.records)?;
-    push_repair_if(&mut out, db, report.repaired, options.why)?;
-    push_changes(&mut out, &report.changes)?;
-    push_diff_of_repair_if(alloc, &mut out, db, report.repaired, options.diff)?;
-    push_end_of_run(alloc, &mut out, db, options.closed)?;
+    let catalog = db.catalog();
+    let records = &report.records;
+    push_records(alloc, &mut out, catalog, records, options.json)?;
+    push_repair_if(&mut out, db, report.repaired, options)?;
+    push_changes(&mut out, catalog, records, &report.changes, options.json)?;
+    push_diff_of_repair_if(alloc, &mut out, db, report.repaired, options)?;
+    push_end_of_run(alloc, &mut out, db, options)?;
     Ok(out)
 }
 
@@ -39,14 +41,20 @@ fn push_repair_if(
     out: &mut Vec<u8>,
     db: &Db,
     repaired: Option<Repaired>,
-    why: bool,
+    options: &Options,
 ) -> Result<(), AllocError>
     ensures { OnOk result (out.new.items
-        ≡ out.old.items ++ repair_lines_if why db.now repaired) }
+        ≡ out.old.items ++ repair_lines_if options.now db.now repaired) }
 {
     if let Some(repaired) = repaired {
-        push_repair(out, repaired.generation, repaired.slots, repaired.rerun)?;
-        push_redone_if(out, db, told_repair(repaired), why)?;
+        push_repair(
+            out,
+            repaired.generation,
+            repaired.slots,
+            repaired.rerun,
+            options.json,
+        )?;
+        push_redone_if(out, db, told_repair(repaired), options)?;
     }
     Ok(())
 }
@@ -57,13 +65,13 @@ fn push_diff_of_repair_if(
     out: &mut Vec<u8>,
     db: &Db,
     repaired: Option<Repaired>,
-    diff: bool,
+    options: &Options,
 ) -> Result<(), AllocError>
     ensures { OnOk result (out.new.items
-        ≡ out.old.items ++ diff_of_repair_if diff db.now repaired) }
+        ≡ out.old.items ++ diff_of_repair_if options.now db.now repaired) }
 {
     if let Some(repaired) = repaired {
-        push_diff_if(alloc, out, db, told_repair(repaired), diff)?;
+        push_diff_if(alloc, out, db, told_repair(repaired), options)?;
     }
     Ok(())
 }

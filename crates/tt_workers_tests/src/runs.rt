@@ -113,6 +113,7 @@ fn report_in_rounds<R: Threads + Wait + Abort + Sync, G: Gate + Copy + Drop + Se
         why: false,
         diff: false,
         dry: false,
+        json: false,
     };
     match run_workers(rt, alloc, document, &options, gate) {
         Ok(report) => report,

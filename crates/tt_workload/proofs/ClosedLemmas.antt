@@ -89,46 +89,46 @@ pub oldest-most : (limits : Limits) (S : State) → KeepsLastGenerations limits 
 oldest-most limits S kept = omega (arith, numbered-length (oldest_of S.closed S.generation) S.generation S.closed kept.numbered)
 
 -- the lines of the next generation, and those after it
-pub closed_lines-next : (limits : Limits) (S : State) (tables : Tables) (number : ℕ) (out all new : List ℕ) → KeepsLastGenerations limits S
+pub closed_lines-next : (json : Bool) (limits : Limits) (S : State) (tables : Tables) (number : ℕ) (out all new : List ℕ) → KeepsLastGenerations limits S
     → oldest_of S.closed S.generation ≤ number → number < S.generation
-    → out ++ closed_lines tables (drop (number - oldest_of S.closed S.generation) S.closed) ≡ all
-    → new ≡ out ++ closed_table_lines number (slots_or_none (slots_in S number)) 0 tables
-    → new ++ closed_lines tables (drop (number + 1 - oldest_of S.closed S.generation) S.closed) ≡ all
-closed_lines-next limits S tables number out all new kept least below h text =
+    → out ++ closed_lines json tables (drop (number - oldest_of S.closed S.generation) S.closed) ≡ all
+    → new ≡ out ++ closed_table_lines json number (slots_or_none (slots_in S number)) 0 tables
+    → new ++ closed_lines json tables (drop (number + 1 - oldest_of S.closed S.generation) S.closed) ≡ all
+closed_lines-next json limits S tables number out all new kept least below h text =
     let first = oldest_of S.closed S.generation in
     let is = kept-at limits S number kept least below in
     let c = is.generation in
     let next : number + 1 - first ≡ suc (number - first) = omega (arith, least) in
-    let lines : new ≡ out ++ closed_table_lines c.number c.slots 0 tables =
-    text ∙ ap (λ o. out ++ closed_table_lines number (slots_or_none o) 0 tables) is.slots ∙ ap (λ n. out ++ closed_table_lines n c.slots 0 tables) (sym is.number_is) in
-    ap (λ o. o ++ closed_lines tables (drop (number + 1 - first) S.closed)) lines
-    ∙ append_assoc out (closed_table_lines c.number c.slots 0 tables) (closed_lines tables (drop (number + 1 - first) S.closed))
-    ∙ ap (λ j. out ++ (closed_table_lines c.number c.slots 0 tables ++ closed_lines tables (drop j S.closed))) next
-    ∙ ap (λ cs. out ++ closed_lines tables cs) (sym (drop-at S.closed (number - first) c is.at))
+    let lines : new ≡ out ++ closed_table_lines json c.number c.slots 0 tables =
+    text ∙ ap (λ o. out ++ closed_table_lines json number (slots_or_none o) 0 tables) is.slots ∙ ap (λ n. out ++ closed_table_lines json n c.slots 0 tables) (sym is.number_is) in
+    ap (λ o. o ++ closed_lines json tables (drop (number + 1 - first) S.closed)) lines
+    ∙ append_assoc out (closed_table_lines json c.number c.slots 0 tables) (closed_lines json tables (drop (number + 1 - first) S.closed))
+    ∙ ap (λ j. out ++ (closed_table_lines json c.number c.slots 0 tables ++ closed_lines json tables (drop j S.closed))) next
+    ∙ ap (λ cs. out ++ closed_lines json tables cs) (sym (drop-at S.closed (number - first) c is.at))
     ∙ h
 
 -- none is left behind the last
-pub closed_lines-end : (limits : Limits) (S : State) (tables : Tables) (number : ℕ) → KeepsLastGenerations limits S → S.generation ≤ number
-    → closed_lines tables (drop (number - oldest_of S.closed S.generation) S.closed) ≡ []
-closed_lines-end limits S tables number kept most =
+pub closed_lines-end : (json : Bool) (limits : Limits) (S : State) (tables : Tables) (number : ℕ) → KeepsLastGenerations limits S → S.generation ≤ number
+    → closed_lines json tables (drop (number - oldest_of S.closed S.generation) S.closed) ≡ []
+closed_lines-end json limits S tables number kept most =
     let first = oldest_of S.closed S.generation in
-    ap (closed_lines tables) (drop-all S.closed (number - first) (omega (arith, most, numbered-length first S.generation S.closed kept.numbered)))
+    ap (closed_lines json tables) (drop-all S.closed (number - first) (omega (arith, most, numbered-length first S.generation S.closed kept.numbered)))
 
 -- the next table's line, and those after it
-pub closed_table_lines-named : (number : ℕ) (W : Slots) (tables : Tables) (i : ℕ) (name out all new : List ℕ) → Some name ≡ option_map (λ t. t.0) (slice_get tables i)
-    → out ++ closed_table_lines number W i (drop i tables) ≡ all → new ≡ out ++ closed_table_line number W i name → new ++ closed_table_lines number W (i + 1) (drop (i + 1) tables) ≡ all
-closed_table_lines-named number W tables i name out all new there h text = by (slice_get tables i) refl there
+pub closed_table_lines-named : (json : Bool) (number : ℕ) (W : Slots) (tables : Tables) (i : ℕ) (name out all new : List ℕ) → Some name ≡ option_map (λ t. t.0) (slice_get tables i)
+    → out ++ closed_table_lines json number W i (drop i tables) ≡ all → new ≡ out ++ closed_table_line json number W i name → new ++ closed_table_lines json number W (i + 1) (drop (i + 1) tables) ≡ all
+closed_table_lines-named json number W tables i name out all new there h text = by (slice_get tables i) refl there
   where
-    by : (o : Option (List ℕ × TableDef)) → slice_get tables i ≡ o → Some name ≡ option_map (λ t. t.0) o → new ++ closed_table_lines number W (i + 1) (drop (i + 1) tables) ≡ all
+    by : (o : Option (List ℕ × TableDef)) → slice_get tables i ≡ o → Some name ≡ option_map (λ t. t.0) o → new ++ closed_table_lines json number W (i + 1) (drop (i + 1) tables) ≡ all
     by None e g = cc
     by (Some t) e g =
         let same : name ≡ t.0 = cc in
         let next : i + 1 ≡ suc i = omega arith in
-        let line = closed_table_line number W i t.0 in
-        ap (λ ls. ls ++ closed_table_lines number W (i + 1) (drop (i + 1) tables)) (text ∙ ap (λ n. out ++ closed_table_line number W i n) same)
-        ∙ append_assoc out line (closed_table_lines number W (i + 1) (drop (i + 1) tables))
-        ∙ ap (λ j. out ++ (line ++ closed_table_lines number W (i + 1) (drop j tables))) next
-        ∙ ap (λ ts. out ++ closed_table_lines number W i ts) (sym (drop-at tables i t e))
+        let line = closed_table_line json number W i t.0 in
+        ap (λ ls. ls ++ closed_table_lines json number W (i + 1) (drop (i + 1) tables)) (text ∙ ap (λ n. out ++ closed_table_line json number W i n) same)
+        ∙ append_assoc out line (closed_table_lines json number W (i + 1) (drop (i + 1) tables))
+        ∙ ap (λ j. out ++ (line ++ closed_table_lines json number W (i + 1) (drop j tables))) next
+        ∙ ap (λ ts. out ++ closed_table_lines json number W i ts) (sym (drop-at tables i t e))
         ∙ h
 
 -- ---- the rows of a generation at its last time

@@ -7,5 +7,7 @@ pub mod DiffLineLemmas
 pub mod RepairReportLemmas
 pub mod WholeReportLemmas
 pub mod ReportLemmas
+pub mod JsonLemmas
+pub mod StandingLemmas
 pub mod EndsLemmas
 pub mod RunLemmas

@@ -1,16 +1,9 @@
 -- Lines of a report, one after another.
-use Rattle.std.proofs.Common.{◌≡◌, ℕ, zero, suc, ◌<◌, ◌+◌, ◌==◌, Bool, true, false, List, [], ◌∷◌, ◌++◌, drop, Option, Some, None, Result, Ok, Err, IsErrAnd, IfErr, if◌then◌else◌, slice_get, refl, sym, ap, ◌∙◌, arith, append_assoc, codes}
-use Rattle.std.proofs.lemmas.Bool.Decides.{nat_tests}
-use Rattle.tt_values.specs.Check.{action_fault}
+use Rattle.std.proofs.Common.{◌≡◌, ℕ, zero, suc, ◌+◌, Bool, List, [], ◌∷◌, ◌++◌, drop, Option, Some, None, Result, Ok, Err, IsErrAnd, IfErr, slice_get, refl, sym, ap, ◌∙◌, arith, append_assoc, codes}
 use Rattle.tt_values.specs.declared.table.TableDef.{TableDef}
 use Rattle.tt_values.specs.Tables.{Tables}
-use Rattle.tt_db.specs.declared.event.Event.TheVariants as events
-use Rattle.tt_db.specs.declared.errors.DbError.TheVariants as errors
-use Rattle.tt_db.specs.State.{full_at, now_of}
 use Rattle.tt_db.specs.State.{State}
 use Rattle.std.specs.Option.{option_map}
-use Rattle.tt_db.specs.Limits.{max_limits}
-use Rattle.tt_db.specs.Database.{Database, state_of, refusal_of}
 use Rattle.tt_records.specs.declared.changed.Changed.{Changed}
 use Rattle.tt_document.specs.declared.document.Document.{Document}
 use Rattle.tt_document.specs.declared.document.Call.{Call}
@@ -23,7 +16,7 @@ use Rattle.tt_workload.specs.declared.run_fault.RunFault.TheVariants.{Memory}
 use Rattle.tt_workload.specs.Printing.{replies_text}
 use Rattle.tt_workload.specs.Records.{after_text, change_text}
 use Rattle.tt_workload.specs.Room.{AreAccepted}
-use Rattle.tt_workload.specs.Report.{table_line, table_lines, end_line}
+use Rattle.tt_workload.specs.Report.{table_line, table_lines}
 
 pub drop-at : {X : Type 0} → (xs : List X) (i : ℕ) (x : X) → slice_get xs i ≡ Some x → drop i xs ≡ x ∷ drop (suc i) xs
 drop-at [] i x h = cc
@@ -31,25 +24,25 @@ drop-at (y ∷ ys) zero x h = let same : y ≡ x = cc in ap (λ z. z ∷ ys) sam
 drop-at (y ∷ ys) (suc i) x h = drop-at ys i x h
 
 -- the next line, and those after it
-pub table_lines-next : (S : State) (tables : Tables) (i : ℕ) (t : List ℕ × TableDef) (out all : List ℕ) → slice_get tables i ≡ Some t
-    → out ++ table_lines S i (drop i tables) ≡ all → (out ++ table_line S i t.0) ++ table_lines S (i + 1) (drop (i + 1) tables) ≡ all
-table_lines-next S tables i t out all there h =
+pub table_lines-next : (json : Bool) (S : State) (tables : Tables) (i : ℕ) (t : List ℕ × TableDef) (out all : List ℕ) → slice_get tables i ≡ Some t
+    → out ++ table_lines json S i (drop i tables) ≡ all → (out ++ table_line json S i t.0) ++ table_lines json S (i + 1) (drop (i + 1) tables) ≡ all
+table_lines-next json S tables i t out all there h =
     let next : i + 1 ≡ suc i = omega arith in
-    append_assoc out (table_line S i t.0) (table_lines S (i + 1) (drop (i + 1) tables))
-    ∙ ap (λ ts. out ++ (table_line S i t.0 ++ table_lines S (i + 1) ts)) (ap (λ j. drop j tables) next)
-    ∙ ap (λ ts. out ++ table_lines S i ts) (sym (drop-at tables i t there))
+    append_assoc out (table_line json S i t.0) (table_lines json S (i + 1) (drop (i + 1) tables))
+    ∙ ap (λ ts. out ++ (table_line json S i t.0 ++ table_lines json S (i + 1) ts)) (ap (λ j. drop j tables) next)
+    ∙ ap (λ ts. out ++ table_lines json S i ts) (sym (drop-at tables i t there))
     ∙ h
 
 -- the same, where the table is known by its name
-pub table_lines-named : (S : State) (tables : Tables) (i : ℕ) (name out all new : List ℕ) → Some name ≡ option_map (λ t. t.0) (slice_get tables i)
-    → out ++ table_lines S i (drop i tables) ≡ all → new ≡ out ++ table_line S i name → new ++ table_lines S (i + 1) (drop (i + 1) tables) ≡ all
-table_lines-named S tables i name out all new there h text = by (slice_get tables i) refl there
+pub table_lines-named : (json : Bool) (S : State) (tables : Tables) (i : ℕ) (name out all new : List ℕ) → Some name ≡ option_map (λ t. t.0) (slice_get tables i)
+    → out ++ table_lines json S i (drop i tables) ≡ all → new ≡ out ++ table_line json S i name → new ++ table_lines json S (i + 1) (drop (i + 1) tables) ≡ all
+table_lines-named json S tables i name out all new there h text = by (slice_get tables i) refl there
   where
-    by : (o : Option (List ℕ × TableDef)) → slice_get tables i ≡ o → Some name ≡ option_map (λ t. t.0) o → new ++ table_lines S (i + 1) (drop (i + 1) tables) ≡ all
+    by : (o : Option (List ℕ × TableDef)) → slice_get tables i ≡ o → Some name ≡ option_map (λ t. t.0) o → new ++ table_lines json S (i + 1) (drop (i + 1) tables) ≡ all
     by None e g = cc
     by (Some t) e g =
         let same : name ≡ t.0 = cc in
-        ap (λ ls. ls ++ table_lines S (i + 1) (drop (i + 1) tables)) (text ∙ ap (λ n. out ++ table_line S i n) same) ∙ table_lines-next S tables i t out all e h
+        ap (λ ls. ls ++ table_lines json S (i + 1) (drop (i + 1) tables)) (text ∙ ap (λ n. out ++ table_line json S i n) same) ∙ table_lines-next json S tables i t out all e h
 
 -- a labelled number and an end, one after another
 pub labelled-once : (old first all label number end : List ℕ) → first ≡ old ++ (label ++ number) → all ≡ first ++ end → all ≡ old ++ (label ++ (number ++ end))

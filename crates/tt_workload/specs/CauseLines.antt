@@ -1,5 +1,5 @@
 -- The lines of the slots that a repair has re-executed, each with its cause.
-use Rattle.std.specs.Prelude.{ℕ, Bool, true, false, List, [], ◌++◌, length, Option, None, Some, unwrap_or, codes}
+use Rattle.std.specs.Prelude.{ℕ, Bool, if◌then◌else◌, List, [], ◌++◌, length, Option, None, Some, unwrap_or, codes}
 use Rattle.std.specs.List.{flat_map, range_with_len}
 use Rattle.std.specs.Option.{option_map}
 use Rattle.std.specs.Fmt.{decimal, signed_decimal}
@@ -13,8 +13,10 @@ use Rattle.tt_db.specs.Database.{Database, state_of}
 use Rattle.tt_db.specs.Causes.{cause_of, cause_in_of}
 use Rattle.tt_grammar.specs.Printing.{value_text}
 use Rattle.tt_grammar.specs.WriteText.{table_name, column_name}
+use Rattle.tt_workload.specs.declared.options.Options.{Options}
 use Rattle.tt_workload.specs.declared.told_repair.ToldRepair.{ToldRepair}
 use Rattle.tt_workload.specs.declared.told_repair.ToldRepair.TheVariants.{UnderWay, ThatClosed}
+use Rattle.tt_workload.specs.JsonReport.{json_of_redone}
 
 -- the cause of a slot by a repair, if that re-executed it
 abbrev pub cause_by : Database → ToldRepair → ℕ → Option Cause
@@ -47,20 +49,23 @@ cause_text tables (Names r since) = codes " names " ++ (row_name tables r ++ sin
 cause_text tables (Reads p since) = codes " reads " ++ (partition_name tables p ++ since_text since)
 cause_text tables (Scans table since) = codes " scans " ++ (table_name tables table ++ since_text since)
 
--- the line of a slot with its cause. One that wasn't re-executed has none
-abbrev pub redone_line : Tables → ℕ → Option Cause → List ℕ
-redone_line tables slot None = []
-redone_line tables slot (Some cause) = codes "redone slot " ++ (decimal slot ++ cause_text tables cause)
+-- the line of a re-executed slot with its cause
+abbrev pub redone_text : Tables → ℕ → Cause → List ℕ
+redone_text tables slot cause = codes "redone slot " ++ (decimal slot ++ cause_text tables cause)
+
+-- the line of a slot in a report, which may be JSON. A slot that wasn't re-executed has none
+abbrev pub redone_line : Bool → Tables → ℕ → Option Cause → List ℕ
+redone_line json tables slot None = []
+redone_line json tables slot (Some cause) = if json then json_of_redone tables slot cause else redone_text tables slot cause
 
 -- the lines of so many slots, from this one on
-abbrev pub redone_lines_from : Database → ToldRepair → ℕ → ℕ → List ℕ
-redone_lines_from db repair slot count = flat_map (λ t. redone_line db.catalog t (cause_by db repair t)) (range_with_len slot count)
+abbrev pub redone_lines_from : Bool → Database → ToldRepair → ℕ → ℕ → List ℕ
+redone_lines_from json db repair slot count = flat_map (λ t. redone_line json db.catalog t (cause_by db repair t)) (range_with_len slot count)
 
 -- the lines of the slots that a repair has re-executed
-abbrev pub redone_lines : Database → ToldRepair → List ℕ
-redone_lines db repair = redone_lines_from db repair 1 (slots_done db repair)
+abbrev pub redone_lines : Bool → Database → ToldRepair → List ℕ
+redone_lines json db repair = redone_lines_from json db repair 1 (slots_done db repair)
 
 -- the same, where they are asked for
-abbrev pub redone_lines_if : Bool → Database → ToldRepair → List ℕ
-redone_lines_if false db repair = []
-redone_lines_if true db repair = redone_lines db repair
+abbrev pub redone_lines_if : Options → Database → ToldRepair → List ℕ
+redone_lines_if options db repair = if options.why then redone_lines options.json db repair else []

@@ -2,6 +2,7 @@ pub mod RunFault
 pub mod Ends
 pub mod Options
 pub mod Printing
+pub mod JsonReport
 pub mod Records
 pub mod History
 pub mod Room
@@ -9,3 +10,4 @@ pub mod CauseLines
 pub mod DiffLines
 pub mod Report
 pub mod Run
+pub mod Laws

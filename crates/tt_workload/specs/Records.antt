@@ -4,6 +4,7 @@ use Rattle.std.specs.List.{flat_map}
 use Rattle.std.specs.Fmt.{decimal}
 use Rattle.tt_values.specs.declared.statement.Select.{Select}
 use Rattle.tt_values.specs.declared.reply.Reply.{Reply}
+use Rattle.tt_values.specs.Tables.{Tables}
 use Rattle.tt_values.specs.Effect.{answer_of}
 use Rattle.tt_values.specs.Action.{replies_of}
 use Rattle.tt_generations.specs.TwoGenerations.{is_repairing, done_of}
@@ -18,6 +19,7 @@ use Rattle.tt_document.specs.declared.document.Call.{Call}
 use Rattle.tt_document.specs.declared.document.Ask.{Ask}
 use Rattle.tt_document.specs.declared.document.Ask.TheVariants as asks
 use Rattle.tt_workload.specs.Printing.{reply_text, replies_text}
+use Rattle.tt_workload.specs.JsonReport.{json_of_record, json_of_change}
 
 -- a select's answer, in a state: at the given time, which may be later than the current one, or else at the current one
 abbrev pub read_in : State → Select → Option ℕ → What
@@ -63,9 +65,13 @@ answer_text whats.NotRepairing = codes " refused not repairing"
 abbrev pub text_of_record : Record → List ℕ
 text_of_record r = caller_text r.call r.worker ++ (answer_text r.what ++ codes "\n")
 
+-- the line of a record in a report, which may be JSON
+abbrev pub line_of_record : Bool → Tables → Record → List ℕ
+line_of_record json tables r = if json then json_of_record tables r else text_of_record r
+
 -- the lines of records
-abbrev pub text_of_records : List Record → List ℕ
-text_of_records records = flat_map text_of_record records
+abbrev pub lines_of_records : Bool → Tables → List Record → List ℕ
+lines_of_records json tables records = flat_map (line_of_record json tables) records
 
 -- what stands in the place of replies
 abbrev pub after_text : After → List ℕ
@@ -80,10 +86,14 @@ change_text label c = label ++ (decimal c.call ++ (codes " " ++ (replies_text c.
 abbrev pub text_of_change : Changed → List ℕ
 text_of_change c = change_text (codes "changed call ") c
 
+-- the line of a changed reply of one of these records, which as text stands behind a label
+abbrev pub line_of_change : Bool → Tables → List Record → List ℕ → Changed → List ℕ
+line_of_change json tables records label c = if json then json_of_change tables records c else change_text label c
+
 -- the lines of changed replies
-abbrev pub text_of_changes : List Changed → List ℕ
-text_of_changes changes = flat_map (change_text (codes "changed call ")) changes
+abbrev pub lines_of_changes : Bool → Tables → List Record → List Changed → List ℕ
+lines_of_changes json tables records changes = flat_map (line_of_change json tables records (codes "changed call ")) changes
 
 -- the lines of replies that a repair would change
-abbrev pub text_of_would_be_changes : List Changed → List ℕ
-text_of_would_be_changes changes = flat_map (change_text (codes "would change call ")) changes
+abbrev pub lines_of_would_be_changes : Bool → Tables → List Record → List Changed → List ℕ
+lines_of_would_be_changes json tables records changes = flat_map (line_of_change json tables records (codes "would change call ")) changes

@@ -1,5 +1,5 @@
--- The report of a document, in bytes, and the database that its calls leave.
-use Rattle.std.specs.Prelude.{ℕ, ◌+◌, ◌-◌, List, [], ◌∷◌, ◌++◌, length, Bool, true, false, if◌then◌else◌, Option, Some, None, codes}
+-- The report of a document, as text or as JSON, in bytes, and the database that its calls leave.
+use Rattle.std.specs.Prelude.{ℕ, ◌+◌, ◌-◌, List, [], ◌∷◌, ◌++◌, length, Bool, if◌then◌else◌, Option, Some, None, codes}
 use Rattle.std.specs.Fmt.{decimal}
 use Rattle.tt_values.specs.declared.statement.Select.{Select}
 use Rattle.tt_values.specs.declared.reply.Reply.{Reply}
@@ -19,7 +19,8 @@ use Rattle.tt_document.specs.declared.document.Plan.{Plan}
 use Rattle.tt_workload.specs.declared.options.Options.{Options}
 use Rattle.tt_workload.specs.declared.told_repair.ToldRepair.TheVariants.{UnderWay, ThatClosed}
 use Rattle.tt_workload.specs.Printing.{reply_text}
-use Rattle.tt_workload.specs.Records.{text_of_records, text_of_changes, text_of_would_be_changes}
+use Rattle.tt_workload.specs.JsonReport.{json_of_repair, json_of_trial, json_of_table, json_of_closed, json_of_end}
+use Rattle.tt_workload.specs.Records.{lines_of_records, lines_of_changes, lines_of_would_be_changes}
 use Rattle.tt_workload.specs.CauseLines.{redone_lines_if}
 use Rattle.tt_workload.specs.DiffLines.{diff_lines_if}
 use Rattle.tt_workload.specs.History.{after_calls, records_of_calls, repair_entry, before_end, with_records_meanwhile, administrator, database_if, records_if}
@@ -29,18 +30,23 @@ abbrev pub repair_text : ℕ → ℕ → ℕ → List ℕ
 repair_text generation slots rerun =
     codes "repair generation " ++ (decimal generation ++ (codes " slots " ++ (decimal slots ++ (codes " rerun " ++ (decimal rerun ++ codes "\n")))))
 
+-- the same in a report, which may be JSON
+abbrev pub line_of_repair : Bool → ℕ → ℕ → ℕ → List ℕ
+line_of_repair json generation slots rerun =
+    if json then json_of_repair generation slots rerun else repair_text generation slots rerun
+
 -- the line of a repair whose switch has this outcome; no other event has one
-abbrev pub outcome_text : Outcome → List ℕ
-outcome_text (Switched generation slots rerun) = repair_text generation slots rerun
-outcome_text outcome = []
+abbrev pub outcome_line : Bool → Outcome → List ℕ
+outcome_line json (Switched generation slots rerun) = line_of_repair json generation slots rerun
+outcome_line json outcome = []
 
 -- the line of a repair, on the database before its switch
-abbrev pub repair_line : Database → List ℕ
-repair_line db = outcome_text (outcome_for db Switch)
+abbrev pub repair_line : Bool → Database → List ℕ
+repair_line json db = outcome_line json (outcome_for db Switch)
 
 -- the lines of the replies that a database answers differently now
-abbrev pub changed_lines : Database → List Record → List ℕ
-changed_lines db records = text_of_changes (changes_of db.catalog (state_of db) records)
+abbrev pub changed_lines : Bool → Database → List Record → List ℕ
+changed_lines json db records = lines_of_changes json db.catalog records (changes_of db.catalog (state_of db) records)
 
 -- the generation that the last switch closed
 abbrev pub closed_by_switch : Database → ℕ
@@ -50,31 +56,36 @@ closed_by_switch db = (state_of db).generation - 1
 -- differs, where these are asked for, and between them one for each changed reply
 abbrev pub lines_after_switch : Options → Database → List Record → List ℕ
 lines_after_switch options db records =
-    redone_lines_if options.why db (ThatClosed (closed_by_switch db))
-    ++ (changed_lines db records ++ diff_lines_if options.diff db (ThatClosed (closed_by_switch db)))
+    redone_lines_if options db (ThatClosed (closed_by_switch db))
+    ++ (changed_lines options.json db records ++ diff_lines_if options db (ThatClosed (closed_by_switch db)))
 
 -- the lines of a repair that switches, on the databases before its switch and after it
 abbrev pub lines_of_switch : Options → Database → Database → List Record → List ℕ
-lines_of_switch options before after records = repair_line before ++ lines_after_switch options after records
+lines_of_switch options before after records = repair_line options.json before ++ lines_after_switch options after records
 
 -- the line of a repair that is tried: how many slots it would re-execute, and of how many
 abbrev pub would_rerun_text : ℕ → ℕ → List ℕ
 would_rerun_text rerun slots = codes "would rerun " ++ (decimal rerun ++ (codes " of " ++ (decimal slots ++ codes " slots\n")))
 
--- the same, on the database with every slot done
-abbrev pub would_rerun_line : Database → List ℕ
-would_rerun_line db =
+-- the same in a report, which may be JSON
+abbrev pub line_of_trial : Bool → ℕ → ℕ → List ℕ
+line_of_trial json rerun slots = if json then json_of_trial rerun slots else would_rerun_text rerun slots
+
+-- that line on the database with every slot done
+abbrev pub would_rerun_line : Bool → Database → List ℕ
+would_rerun_line json db =
     let S = state_of db in
-    would_rerun_text (reexecuted_of db.catalog S.phase S.slots) (now_of S)
+    line_of_trial json (reexecuted_of db.catalog S.phase S.slots) (now_of S)
 
 -- the lines of the replies that the repair under way would change
-abbrev pub would_change_lines : Database → List Record → List ℕ
-would_change_lines db records = text_of_would_be_changes (next_changes_of db.catalog (state_of db) records)
+abbrev pub would_change_lines : Bool → Database → List Record → List ℕ
+would_change_lines json db records = lines_of_would_be_changes json db.catalog records (next_changes_of db.catalog (state_of db) records)
 
 -- the lines of a repair that is given up, on the database before that: what they tell is that of the repair under way
 abbrev pub lines_of_trial : Options → Database → List Record → List ℕ
 lines_of_trial options db records =
-    would_rerun_line db ++ (redone_lines_if options.why db UnderWay ++ (would_change_lines db records ++ diff_lines_if options.diff db UnderWay))
+    would_rerun_line options.json db
+    ++ (redone_lines_if options db UnderWay ++ (would_change_lines options.json db records ++ diff_lines_if options db UnderWay))
 
 -- the lines of a repair, on the database before its end: it switches, or is given up where the run is dry
 abbrev pub lines_of_end : Options → ℕ → Database → List Record → List ℕ
@@ -101,14 +112,18 @@ all_rows table = record { table = table; equals = [] }
 abbrev pub table_text : List ℕ → Reply → List ℕ
 table_text name rows = codes "table " ++ (name ++ (codes " " ++ (reply_text rows ++ codes "\n")))
 
+-- the same in a report, which may be JSON
+abbrev pub line_of_table : Bool → List ℕ → Reply → List ℕ
+line_of_table json name rows = if json then json_of_table name rows else table_text name rows
+
 -- the line of a table: its name and all its rows now
-abbrev pub table_line : State → ℕ → List ℕ → List ℕ
-table_line S table name = table_text name (answer_of (all_rows table) (current_at S (now_of S)))
+abbrev pub table_line : Bool → State → ℕ → List ℕ → List ℕ
+table_line json S table name = line_of_table json name (answer_of (all_rows table) (current_at S (now_of S)))
 
 -- the lines of tables, from a position on
-abbrev pub table_lines : State → ℕ → Tables → List ℕ
-table_lines S table [] = []
-table_lines S table (t ∷ tables) = table_line S table t.0 ++ table_lines S (table + 1) tables
+abbrev pub table_lines : Bool → State → ℕ → Tables → List ℕ
+table_lines json S table [] = []
+table_lines json S table (t ∷ tables) = table_line json S table t.0 ++ table_lines json S (table + 1) tables
 
 -- the slots of a generation, and none where it can't be read
 abbrev pub slots_or_none : Option Slots → Slots
@@ -120,46 +135,50 @@ abbrev pub closed_text : ℕ → ℕ → List ℕ → Reply → List ℕ
 closed_text generation time name rows =
     codes "closed generation " ++ (decimal generation ++ (codes " time " ++ (decimal time ++ (codes " " ++ table_text name rows))))
 
+-- the same in a report, which may be JSON
+abbrev pub line_of_closed : Bool → ℕ → ℕ → List ℕ → Reply → List ℕ
+line_of_closed json generation time name rows =
+    if json then json_of_closed generation time name rows else closed_text generation time name rows
+
 -- the line of a table of a closed generation with these slots: all its rows at the last time
-abbrev pub closed_table_line : ℕ → Slots → ℕ → List ℕ → List ℕ
-closed_table_line generation W table name =
-    closed_text generation (length W) name (answer_of (all_rows table) (content_of W (length W)))
+abbrev pub closed_table_line : Bool → ℕ → Slots → ℕ → List ℕ → List ℕ
+closed_table_line json generation W table name =
+    line_of_closed json generation (length W) name (answer_of (all_rows table) (content_of W (length W)))
 
 -- the lines of the tables of a closed generation, from a position on
-abbrev pub closed_table_lines : ℕ → Slots → ℕ → Tables → List ℕ
-closed_table_lines generation W table [] = []
-closed_table_lines generation W table (t ∷ tables) =
-    closed_table_line generation W table t.0 ++ closed_table_lines generation W (table + 1) tables
+abbrev pub closed_table_lines : Bool → ℕ → Slots → ℕ → Tables → List ℕ
+closed_table_lines json generation W table [] = []
+closed_table_lines json generation W table (t ∷ tables) =
+    closed_table_line json generation W table t.0 ++ closed_table_lines json generation W (table + 1) tables
 
 -- the lines of closed generations
-abbrev pub closed_lines : Tables → List ClosedGeneration → List ℕ
-closed_lines tables [] = []
-closed_lines tables (c ∷ closed) = closed_table_lines c.number c.slots 0 tables ++ closed_lines tables closed
+abbrev pub closed_lines : Bool → Tables → List ClosedGeneration → List ℕ
+closed_lines json tables [] = []
+closed_lines json tables (c ∷ closed) = closed_table_lines json c.number c.slots 0 tables ++ closed_lines json tables closed
 
 -- the lines of the closed generations that are kept, where these are asked for
-abbrev pub closed_lines_if : Bool → Database → List ℕ
-closed_lines_if false db = []
-closed_lines_if true db = closed_lines db.catalog (state_of db).closed
+abbrev pub closed_lines_if : Options → Database → List ℕ
+closed_lines_if options db = if options.closed then closed_lines options.json db.catalog (state_of db).closed else []
 
 -- the last line, with a generation and a time
 abbrev pub end_text : ℕ → ℕ → List ℕ
 end_text generation time = codes "end generation " ++ (decimal generation ++ (codes " time " ++ (decimal time ++ codes "\n")))
 
--- the last line of a report, in a state
-abbrev pub end_line : State → List ℕ
-end_line S = end_text S.generation (now_of S)
+-- the last line of a report, which may be JSON, in a state
+abbrev pub end_line : Bool → State → List ℕ
+end_line json S = if json then json_of_end S.generation (now_of S) else end_text S.generation (now_of S)
 
 -- the lines of all tables, and the last one
-abbrev pub last_lines : Database → List ℕ
-last_lines db = table_lines (state_of db) 0 db.catalog ++ end_line (state_of db)
+abbrev pub last_lines : Bool → Database → List ℕ
+last_lines json db = table_lines json (state_of db) 0 db.catalog ++ end_line json (state_of db)
 
 -- the report of a document, whose repair makes at most a batch of steps before each call: a line for each call, those of the repair,
 -- those of the closed generations where these are asked for, one for each table, and the last one
 abbrev pub report_of : Options → Document → List ℕ
 report_of options document =
     let last = database_if options document document.repair in
-    text_of_records (records_if options.batch document document.repair)
-    ++ (repair_lines_if options document document.repair ++ (closed_lines_if options.closed last ++ last_lines last))
+    lines_of_records options.json document.catalog (records_if options.batch document document.repair)
+    ++ (repair_lines_if options document document.repair ++ (closed_lines_if options last ++ last_lines options.json last))
 
 -- the database after the calls of a document, and its repair
 abbrev pub database_after : Options → Document → Database

@@ -5,7 +5,7 @@ ghost use Rattle.tt_generations.specs.TwoGenerations.{done_of};
 ghost use Rattle.tt_db.specs.Limits.{usual_limits};
 ghost use Rattle.tt_db.specs.Database.{state_of, with_entry, refusal_of, outcome_for};
 ghost use Rattle.tt_document.specs.Document.{ask_fault};
-ghost use Rattle.tt_workload.specs.Records.{read_in, preview_in, answer_in, record_in, kept, text_of_record, text_of_records};
+ghost use Rattle.tt_workload.specs.Records.{read_in, preview_in, answer_in, record_in, kept, line_of_record, lines_of_records};
 ghost use Rattle.tt_workload.specs.History.{with_entries, entries_of_ask, entries_of, history_of, records_of};
 ghost use Rattle.tt_workload.specs.Room.{HasRoom, AreAccepted, IsBefore};
 
@@ -158,11 +158,12 @@ pub(crate) fn make_call(
     db: &mut Db,
     number: u64,
     call: Call,
+    json: bool,
 ) -> Result<Record, RunFault>
     requires accepted { ask_fault db.old.catalog call.ask ≡ None }
     requires room { HasRoom db.old }
-    ensures line { OnOk result (out.new.items
-        ≡ out.old.items ++ text_of_record (record_in number (state_of db.old) call)) }
+    ensures line { OnOk result (out.new.items ≡ out.old.items
+        ++ line_of_record json db.old.catalog (record_in number (state_of db.old) call)) }
     ensures state { OnOk result (db.new ≡ with_entries db.old (entries_of call)) }
     ensures answer { IfOk result (λ made. made ≡ record_in number (state_of db.old) call) }
     ensures err { IfErr result (λ e. e ≡ RunFault.Memory) }
@@ -173,7 +174,7 @@ pub(crate) fn make_call(
         worker,
         what: answer(alloc, db, worker, ask)?,
     };
-    push_record(out, &record)?;
+    push_record(alloc, out, db.catalog(), &record, json)?;
     Ok(record)
 }
 
@@ -197,13 +198,14 @@ pub(crate) fn make_calls(
     are_kept: bool,
     db: Db,
     calls: Vec<Call>,
+    json: bool,
 ) -> Result<Db, RunFault>
     requires empty { db.history ≡ [] }
     requires limits { db.limits ≡ usual_limits }
     requires accepted { AreAccepted db.catalog calls.items }
     requires few { length calls.items ≤ 100000 }
-    ensures lines { OnOk result (out.new.items
-        ≡ out.old.items ++ text_of_records (records_of 1 db calls.items)) }
+    ensures lines { OnOk result (out.new.items ≡ out.old.items
+        ++ lines_of_records json db.catalog (records_of 1 db calls.items)) }
     ensures records { OnOk result (records.new.items
         ≡ records.old.items ++ kept are_kept (records_of 1 db calls.items)) }
     ensures state { IfOk result (λ last.
@@ -215,7 +217,7 @@ pub(crate) fn make_calls(
     let mut number: u64 = 0;
     for call in calls {
         number += 1;
-        let record = make_call(alloc, out, &mut db, number, call)?;
+        let record = make_call(alloc, out, &mut db, number, call, json)?;
         keep(records, are_kept, record)?;
     }
     Ok(db)

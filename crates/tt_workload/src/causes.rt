@@ -4,8 +4,10 @@ ghost use Rattle.std.specs.Option.{option_map};
 ghost use Rattle.tt_generations.specs.SlotCauses.{cause_told};
 ghost use Rattle.tt_generations.specs.TwoGenerations.{done_of};
 ghost use Rattle.tt_db.specs.Database.{state_of};
-ghost use Rattle.tt_workload.specs.CauseLines.{cause_by, slots_done, row_name, partition_name, since_text, cause_text, redone_line, redone_lines, redone_lines_if};
+ghost use Rattle.tt_workload.specs.CauseLines.{cause_by, slots_done, row_name, partition_name, since_text, cause_text, redone_text, redone_line, redone_lines, redone_lines_if};
 
+use crate::json_report::push_json_redone;
+use crate::options::Options;
 use crate::told_repair::ToldRepair;
 use std::alloc::AllocError;
 use tt_db::{Cause, Db};
@@ -18,25 +20,27 @@ pub fn push_redone_if(
     out: &mut Vec<u8>,
     db: &Db,
     repair: ToldRepair,
-    why: bool,
+    options: &Options,
 ) -> Result<(), AllocError>
     ensures { OnOk result (out.new.items
-        ≡ out.old.items ++ redone_lines_if why db.now repair) }
+        ≡ out.old.items ++ redone_lines_if options.now db.now repair) }
 {
-    if why {
-        push_redone(out, db, repair)?;
+    if options.why {
+        push_redone(out, db, repair, options.json)?;
     }
     Ok(())
 }
 
 /// Pushes a line for each slot that a repair has re-executed.
-fn push_redone(out: &mut Vec<u8>, db: &Db, repair: ToldRepair) -> Result<(), AllocError>
-    ensures { OnOk result (out.new.items ≡ out.old.items ++ redone_lines db.now repair) }
+fn push_redone(out: &mut Vec<u8>, db: &Db, repair: ToldRepair, json: bool) -> Result<(), AllocError>
+    ensures { OnOk result (out.new.items
+        ≡ out.old.items ++ redone_lines json db.now repair) }
 {
     let count = slots_done(db, repair);
     for earlier in 0..count {
         let slot = earlier + 1;
-        push_redone_slot(out, db.catalog(), slot, cause_by(db, repair, slot))?;
+        let cause = cause_by(db, repair, slot);
+        push_redone_slot(out, db.catalog(), slot, cause, json)?;
     }
     Ok(())
 }
@@ -77,14 +81,30 @@ fn push_redone_slot(
     catalog: &Catalog,
     slot: u64,
     cause: Option<Cause<'_>>,
+    json: bool,
+) -> Result<(), AllocError>
+    ensures { OnOk result (out.new.items ≡ out.old.items
+        ++ redone_line json catalog.now slot (option_map cause_told cause.entry)) }
+{
+    match cause {
+        Some(cause) if json => push_json_redone(out, catalog, slot, cause),
+        Some(cause) => push_redone_text(out, catalog, slot, cause),
+        None => Ok(()),
+    }
+}
+
+/// Pushes the line of a re-executed slot as text.
+fn push_redone_text(
+    out: &mut Vec<u8>,
+    catalog: &Catalog,
+    slot: u64,
+    cause: Cause<'_>,
 ) -> Result<(), AllocError>
     ensures { OnOk result (out.new.items
-        ≡ out.old.items ++ redone_line catalog.now slot (option_map cause_told cause.entry)) }
+        ≡ out.old.items ++ redone_text catalog.now slot (cause_told cause.entry)) }
 {
-    if let Some(cause) = cause {
-        push_labelled(out, b"redone slot ", slot)?;
-        push_cause(out, catalog, cause)?;
-    }
+    push_labelled(out, b"redone slot ", slot)?;
+    push_cause(out, catalog, cause)?;
     Ok(())
 }
 

@@ -6,9 +6,11 @@ ghost use Rattle.tt_values.specs.Effect.{answer_of};
 ghost use Rattle.tt_values.specs.RowWrites.{content_of};
 ghost use Rattle.tt_db.specs.State.{slots_in};
 ghost use Rattle.tt_db.specs.Database.{state_of};
-ghost use Rattle.tt_workload.specs.Report.{all_rows, slots_or_none, closed_text, closed_table_line, closed_table_lines, closed_lines, closed_lines_if};
+ghost use Rattle.tt_workload.specs.Report.{all_rows, slots_or_none, closed_text, line_of_closed, closed_table_line, closed_table_lines, closed_lines, closed_lines_if};
 
-use crate::report::push_named;
+use crate::json_report::push_json_closed;
+use crate::options::Options;
+use crate::report::push_table_text;
 use crate::run_fault::RunFault;
 use std::alloc::{AllocError, Global};
 use tt_db::Db;
@@ -21,27 +23,27 @@ pub(crate) fn push_closed_if(
     alloc: Global,
     out: &mut Vec<u8>,
     db: &Db,
-    closed: bool,
+    options: &Options,
 ) -> Result<(), RunFault>
     ensures text { OnOk result (out.new.items
-        ≡ out.old.items ++ closed_lines_if closed db.now) }
+        ≡ out.old.items ++ closed_lines_if options.now db.now) }
     ensures err { IfErr result (λ e. e ≡ RunFault.Memory) }
 {
-    if closed {
-        push_closed(alloc, out, db)?;
+    if options.closed {
+        push_closed(alloc, out, db, options.json)?;
     }
     Ok(())
 }
 
 /// Pushes the lines of the closed generations that are kept, the oldest first.
-fn push_closed(alloc: Global, out: &mut Vec<u8>, db: &Db) -> Result<(), RunFault>
+fn push_closed(alloc: Global, out: &mut Vec<u8>, db: &Db, json: bool) -> Result<(), RunFault>
     ensures text { OnOk result (out.new.items
-        ≡ out.old.items ++ closed_lines db.now.catalog (state_of db.now).closed) }
+        ≡ out.old.items ++ closed_lines json db.now.catalog (state_of db.now).closed) }
     ensures err { IfErr result (λ e. e ≡ RunFault.Memory) }
 {
     last_generations_are_kept();
     for generation in db.oldest()..db.generation() {
-        push_generation(alloc, out, db, generation)?;
+        push_generation(alloc, out, db, generation, json)?;
     }
     Ok(())
 }
@@ -52,11 +54,12 @@ fn push_generation(
     out: &mut Vec<u8>,
     db: &Db,
     generation: u64,
+    json: bool,
 ) -> Result<(), RunFault>
     requires kept { IsSome (slots_in (state_of db.now) generation) }
     ensures text { OnOk result (out.new.items ≡ out.old.items
-        ++ closed_table_lines generation (slots_or_none (slots_in (state_of db.now) generation))
-        0 db.now.catalog) }
+        ++ closed_table_lines json generation
+        (slots_or_none (slots_in (state_of db.now) generation)) 0 db.now.catalog) }
     ensures err { IfErr result (λ e. e ≡ RunFault.Memory) }
 {
     let catalog = db.catalog();
@@ -64,7 +67,7 @@ fn push_generation(
         let Some(name) = catalog.name(table) else {
             unreachable!()
         };
-        push_closed_table(alloc, out, db, generation, table, name)?;
+        push_closed_table(alloc, out, db, generation, table, name, json)?;
     }
     Ok(())
 }
@@ -77,11 +80,12 @@ fn push_closed_table(
     generation: u64,
     table: u16,
     name: &str,
+    json: bool,
 ) -> Result<(), RunFault>
     requires kept { IsSome (slots_in (state_of db.now) generation) }
     requires accepted { select_fault db.now.catalog (all_rows table) ≡ None }
     ensures text { OnOk result (out.new.items ≡ out.old.items
-        ++ closed_table_line generation
+        ++ closed_table_line json generation
         (slots_or_none (slots_in (state_of db.now) generation)) table name.now) }
     ensures err { IfErr result (λ e. e ≡ RunFault.Memory) }
 {
@@ -89,7 +93,7 @@ fn push_closed_table(
         unreachable!()
     };
     let rows = last_rows(alloc, db, generation, time, table)?;
-    push_closed_line(out, generation, time, name, &rows)?;
+    push_closed_line(out, generation, time, name, &rows, json)?;
     Ok(())
 }
 
@@ -124,6 +128,25 @@ fn push_closed_line(
     time: u64,
     name: &str,
     rows: &Reply,
+    json: bool,
+) -> Result<(), AllocError>
+    ensures { OnOk result (out.new.items
+        ≡ out.old.items ++ line_of_closed json generation time name.now rows.now) }
+{
+    if json {
+        push_json_closed(out, generation, time, name, rows)
+    } else {
+        push_closed_text(out, generation, time, name, rows)
+    }
+}
+
+/// Pushes the line of a table of a closed generation as text.
+fn push_closed_text(
+    out: &mut Vec<u8>,
+    generation: u64,
+    time: u64,
+    name: &str,
+    rows: &Reply,
 ) -> Result<(), AllocError>
     ensures { OnOk result (out.new.items
         ≡ out.old.items ++ closed_text generation time name.now rows.now) }
@@ -131,6 +154,6 @@ fn push_closed_line(
     push_labelled(out, b"closed generation ", generation)?;
     push_labelled(out, b" time ", time)?;
     out.push(b' ')?;
-    push_named(out, name, rows)?;
+    push_table_text(out, name, rows)?;
     Ok(())
 }

@@ -2,9 +2,11 @@
 ghost use Rattle.std.specs.Prelude.{◌≡◌, ◌++◌, map, OnOk, IfOk};
 ghost use Rattle.std.specs.List.{flat_map};
 ghost use Rattle.tt_generations.specs.RowChanges.{change_told};
-ghost use Rattle.tt_workload.specs.DiffLines.{differences_by, row_or_none, sides_text, diff_line, diff_lines, diff_lines_if};
+ghost use Rattle.tt_workload.specs.DiffLines.{differences_by, row_or_none, sides_text, diff_text, diff_line, diff_lines, diff_lines_if};
 
 use crate::causes::push_row_name;
+use crate::json_report::push_json_diff;
+use crate::options::Options;
 use crate::told_repair::ToldRepair;
 use std::alloc::{AllocError, Global};
 use tt_db::{Db, ReadError, RowChange};
@@ -19,12 +21,13 @@ pub fn push_diff_if(
     out: &mut Vec<u8>,
     db: &Db,
     repair: ToldRepair,
-    diff: bool,
+    options: &Options,
 ) -> Result<(), AllocError>
-    ensures { OnOk result (out.new.items ≡ out.old.items ++ diff_lines_if diff db.now repair) }
+    ensures { OnOk result (out.new.items
+        ≡ out.old.items ++ diff_lines_if options.now db.now repair) }
 {
-    if diff {
-        push_diff(alloc, out, db, repair)?;
+    if options.diff {
+        push_diff(alloc, out, db, repair, options.json)?;
     }
     Ok(())
 }
@@ -35,13 +38,14 @@ fn push_diff(
     out: &mut Vec<u8>,
     db: &Db,
     repair: ToldRepair,
+    json: bool,
 ) -> Result<(), AllocError>
-    ensures { OnOk result (out.new.items ≡ out.old.items ++ diff_lines db.now repair) }
+    ensures { OnOk result (out.new.items ≡ out.old.items ++ diff_lines json db.now repair) }
 {
     let catalog = db.catalog();
     for table in 0..catalog.len() as u16 {
         let changes = differences_by(alloc, db, repair, table)?;
-        push_table_diff(out, catalog, table, changes.as_slice())?;
+        push_table_diff(out, catalog, table, changes.as_slice(), json)?;
     }
     Ok(())
 }
@@ -74,12 +78,13 @@ fn push_table_diff(
     catalog: &Catalog,
     table: u16,
     changes: &[RowChange],
+    json: bool,
 ) -> Result<(), AllocError>
     ensures { OnOk result (out.new.items ≡ out.old.items
-        ++ flat_map (λ c. diff_line catalog.now table (change_told c)) changes.now) }
+        ++ flat_map (λ c. diff_line json catalog.now table (change_told c)) changes.now) }
 {
     for change in changes {
-        push_row_diff(out, catalog, table, change)?;
+        push_row_diff(out, catalog, table, change, json)?;
     }
     Ok(())
 }
@@ -90,9 +95,27 @@ fn push_row_diff(
     catalog: &Catalog,
     table: u16,
     change: &RowChange,
+    json: bool,
 ) -> Result<(), AllocError>
     ensures { OnOk result (out.new.items
-        ≡ out.old.items ++ diff_line catalog.now table (change_told change.now)) }
+        ≡ out.old.items ++ diff_line json catalog.now table (change_told change.now)) }
+{
+    if json {
+        push_json_diff(out, catalog, table, change)
+    } else {
+        push_diff_text(out, catalog, table, change)
+    }
+}
+
+/// Pushes the line of a row that differs as text.
+fn push_diff_text(
+    out: &mut Vec<u8>,
+    catalog: &Catalog,
+    table: u16,
+    change: &RowChange,
+) -> Result<(), AllocError>
+    ensures { OnOk result (out.new.items
+        ≡ out.old.items ++ diff_text catalog.now table (change_told change.now)) }
 {
     out.extend_from_slice(b"diff ")?;
     push_row_name(out, catalog, table, change.key)?;

@@ -7,6 +7,8 @@ mod causes;
 mod closed;
 mod differences;
 mod ends;
+mod json_report;
+pub mod laws;
 mod options;
 mod printing;
 mod record_text;

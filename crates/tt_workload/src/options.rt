@@ -17,6 +17,8 @@ pub struct Options {
     /// Whether the repair of a replay is given up before its switch, so that its report tells what
     /// would be. A run in threads doesn't read it.
     pub dry: bool,
+    /// Whether the lines of the report are JSON.
+    pub json: bool,
 }
 
 impl Options {
@@ -24,7 +26,7 @@ impl Options {
     ghost use Rattle.tt_workload.specs.Options.{usual, AreWithin};
 
     /// The options where none is given: batch 16, rounds 8, no closed generation, no causes
-    /// and no differences, and the repair switches.
+    /// and no differences, the repair switches, and the report is text.
     pub const fn usual() -> Options
         ensures { result ≡ usual }
     {
@@ -35,6 +37,7 @@ impl Options {
             why: false,
             diff: false,
             dry: false,
+            json: false,
         }
     }
 

@@ -3,7 +3,7 @@ ghost use Rattle.std.specs.Prelude.{◌≡◌, ◌+◌, ◌++◌, ◌∷◌, ◌
 ghost use Rattle.tt_generations.specs.TwoGenerations.{is_repairing};
 ghost use Rattle.tt_db.specs.State.{slots_left};
 ghost use Rattle.tt_db.specs.Database.{state_of, with_entry, refusal_of};
-ghost use Rattle.tt_workload.specs.Records.{text_of_records};
+ghost use Rattle.tt_workload.specs.Records.{lines_of_records};
 ghost use Rattle.tt_workload.specs.History.{with_entries, slot_in, slot_of_call, edit_of_slot, repair_entry, steps, with_batch, with_steps_left, with_meanwhile, records_meanwhile};
 ghost use Rattle.tt_workload.specs.Room.{AreAccepted, IsUnderWay};
 
@@ -137,12 +137,14 @@ pub(crate) fn make_meanwhile(
     db: &mut Db,
     administrator: Administrator,
     calls: Vec<Call>,
+    json: bool,
 ) -> Result<(), RunFault>
     requires under_way { IsUnderWay (length records.old.items) db.old }
     requires accepted { AreAccepted db.old.catalog calls.items }
     requires few { length records.old.items + length calls.items ≤ 200000 }
     ensures lines { OnOk result (out.new.items ≡ out.old.items
-        ++ text_of_records (records_meanwhile administrator.worker administrator.batch
+        ++ lines_of_records json db.old.catalog
+        (records_meanwhile administrator.worker administrator.batch
         (length records.old.items + 1) db.old calls.items)) }
     ensures records { OnOk result (records.new.items ≡ records.old.items
         ++ records_meanwhile administrator.worker administrator.batch
@@ -157,7 +159,7 @@ pub(crate) fn make_meanwhile(
     for call in calls {
         make_batch(db, administrator, number)?;
         number += 1;
-        let record = make_call(alloc, out, db, number, call)?;
+        let record = make_call(alloc, out, db, number, call, json)?;
         records.push(record)?;
     }
     Ok(())

@@ -4,12 +4,13 @@ ghost use Rattle.std.specs.Prelude.{◌≡◌, ◌++◌, ◌≤◌, true, OnOk, 
 ghost use Rattle.tt_generations.specs.TwoGenerations.{is_repairing, reexecuted_of};
 ghost use Rattle.tt_db.specs.Database.{state_of, with_entry, refusal_of, outcome_for};
 ghost use Rattle.tt_workload.specs.History.{repair_entry, end_of_repair, with_steps_left};
-ghost use Rattle.tt_workload.specs.Report.{repair_text, outcome_text, changed_lines, closed_by_switch, lines_after_switch, lines_of_switch, would_rerun_text, would_change_lines, lines_of_trial, lines_of_end};
+ghost use Rattle.tt_workload.specs.Report.{repair_text, line_of_repair, outcome_line, changed_lines, closed_by_switch, lines_after_switch, lines_of_switch, would_rerun_text, line_of_trial, would_change_lines, lines_of_trial, lines_of_end};
 ghost use Rattle.tt_workload.specs.Room.{IsUnderWay};
 
 use crate::calls::carry_out;
 use crate::causes::push_redone_if;
 use crate::differences::push_diff_if;
+use crate::json_report::{push_json_repair, push_json_trial};
 use crate::options::Options;
 use crate::record_text::{push_changes, push_would_be_changes};
 use crate::repair::catch_up;
@@ -63,7 +64,7 @@ fn switch_over(
     ensures err { IfErr result (λ e. e ≡ RunFault.Memory) }
 {
     let outcome = switch(db, worker)?;
-    push_outcome(out, &outcome)?;
+    push_outcome(out, &outcome, options.json)?;
     push_after_switch(alloc, out, db, records, options)
 }
 
@@ -82,8 +83,8 @@ fn switch(db: &mut Db, worker: u32) -> Result<Outcome, RunFault>
 }
 
 /// Pushes the line of a repair, if the outcome is that of a switch.
-fn push_outcome(out: &mut Vec<u8>, outcome: &Outcome) -> Result<(), AllocError>
-    ensures { OnOk result (out.new.items ≡ out.old.items ++ outcome_text outcome.now) }
+fn push_outcome(out: &mut Vec<u8>, outcome: &Outcome, json: bool) -> Result<(), AllocError>
+    ensures { OnOk result (out.new.items ≡ out.old.items ++ outcome_line json outcome.now) }
 {
     if let Outcome::Switched {
         generation,
@@ -91,13 +92,31 @@ fn push_outcome(out: &mut Vec<u8>, outcome: &Outcome) -> Result<(), AllocError>
         rerun,
     } = outcome
     {
-        push_repair(out, *generation, *slots, *rerun)?;
+        push_repair(out, *generation, *slots, *rerun, json)?;
     }
     Ok(())
 }
 
-/// Pushes the line of a repair, with its line feed.
+/// Pushes the line of a repair, with its line feed, as JSON or as text.
 pub fn push_repair(
+    out: &mut Vec<u8>,
+    generation: u64,
+    slots: u64,
+    rerun: u64,
+    json: bool,
+) -> Result<(), AllocError>
+    ensures { OnOk result (out.new.items
+        ≡ out.old.items ++ line_of_repair json generation slots rerun) }
+{
+    if json {
+        push_json_repair(out, generation, slots, rerun)
+    } else {
+        push_repair_text(out, generation, slots, rerun)
+    }
+}
+
+/// Pushes the line of a repair as text.
+fn push_repair_text(
     out: &mut Vec<u8>,
     generation: u64,
     slots: u64,
@@ -128,9 +147,9 @@ fn push_after_switch(
     ensures err { IfErr result (λ e. e ≡ RunFault.Memory) }
 {
     let repair = ToldRepair::ThatClosed(closed_by_switch(db));
-    push_redone_if(out, db, repair, options.why)?;
-    push_changed(alloc, out, db, records)?;
-    push_diff_if(alloc, out, db, repair, options.diff)?;
+    push_redone_if(out, db, repair, options)?;
+    push_changed(alloc, out, db, records, options.json)?;
+    push_diff_if(alloc, out, db, repair, options)?;
     Ok(())
 }
 
@@ -147,13 +166,14 @@ fn push_changed(
     out: &mut Vec<u8>,
     db: &Db,
     records: &[Record],
+    json: bool,
 ) -> Result<(), RunFault>
     ensures text { OnOk result (out.new.items ≡ out.old.items
-        ++ changed_lines db.now records.now) }
+        ++ changed_lines json db.now records.now) }
     ensures err { IfErr result (λ e. e ≡ RunFault.Memory) }
 {
     let changes = changes(alloc, db, records)?;
-    push_changes(out, &changes)?;
+    push_changes(out, db.catalog(), records, &changes, json)?;
     Ok(())
 }
 
@@ -208,10 +228,10 @@ fn push_trial(
 {
     let rerun = rerun_under_way(db);
     let slots = db.now();
-    push_would_rerun(out, rerun, slots)?;
-    push_redone_if(out, db, ToldRepair::UnderWay, options.why)?;
-    push_would_change(alloc, out, db, records)?;
-    push_diff_if(alloc, out, db, ToldRepair::UnderWay, options.diff)?;
+    push_would_rerun(out, rerun, slots, options.json)?;
+    push_redone_if(out, db, ToldRepair::UnderWay, options)?;
+    push_would_change(alloc, out, db, records, options.json)?;
+    push_diff_if(alloc, out, db, ToldRepair::UnderWay, options)?;
     Ok(())
 }
 
@@ -227,7 +247,19 @@ fn rerun_under_way(db: &Db) -> u64
 }
 
 /// Pushes the line of a repair that is tried: how many slots it would re-execute, and of how many.
-fn push_would_rerun(out: &mut Vec<u8>, rerun: u64, slots: u64) -> Result<(), AllocError>
+fn push_would_rerun(out: &mut Vec<u8>, rerun: u64, slots: u64, json: bool) -> Result<(), AllocError>
+    ensures { OnOk result (out.new.items
+        ≡ out.old.items ++ line_of_trial json rerun slots) }
+{
+    if json {
+        push_json_trial(out, rerun, slots)
+    } else {
+        push_would_rerun_text(out, rerun, slots)
+    }
+}
+
+/// Pushes the line of a repair that is tried as text.
+fn push_would_rerun_text(out: &mut Vec<u8>, rerun: u64, slots: u64) -> Result<(), AllocError>
     ensures { OnOk result (out.new.items ≡ out.old.items ++ would_rerun_text rerun slots) }
 {
     push_labelled(out, b"would rerun ", rerun)?;
@@ -242,15 +274,16 @@ fn push_would_change(
     out: &mut Vec<u8>,
     db: &Db,
     records: &[Record],
+    json: bool,
 ) -> Result<(), RunFault>
     requires { is_repairing (state_of db.now).phase ≡ true }
     ensures text { OnOk result (out.new.items ≡ out.old.items
-        ++ would_change_lines db.now records.now) }
+        ++ would_change_lines json db.now records.now) }
     ensures err { IfErr result (λ e. e ≡ RunFault.Memory) }
 {
     match changes_next(alloc, db, records) {
         Ok(changes) => {
-            push_would_be_changes(out, &changes)?;
+            push_would_be_changes(out, db.catalog(), records, &changes, json)?;
             Ok(())
         }
         // A repair is under way, so there is no memory.

@@ -4,13 +4,14 @@ ghost use Rattle.tt_values.specs.Check.{select_fault};
 ghost use Rattle.tt_db.specs.Limits.{usual_limits};
 ghost use Rattle.tt_db.specs.Database.{state_of, refusal_of};
 ghost use Rattle.tt_document.specs.Document.{IsValidCall, IsValidPlan, IsValidDocument};
-ghost use Rattle.tt_workload.specs.Records.{text_of_records};
+ghost use Rattle.tt_workload.specs.Records.{lines_of_records};
 ghost use Rattle.tt_workload.specs.History.{edit_of_slot, after_begin, after_repair, records_meanwhile, records_if};
 ghost use Rattle.tt_workload.specs.Room.{AreAccepted, IsBefore};
-ghost use Rattle.tt_workload.specs.Report.{all_rows, table_text, table_line, table_lines, end_text, end_line, repair_lines, repair_lines_if, closed_lines_if, last_lines, report_of, database_after};
+ghost use Rattle.tt_workload.specs.Report.{all_rows, table_text, line_of_table, table_line, table_lines, end_text, end_line, repair_lines, repair_lines_if, closed_lines_if, last_lines, report_of, database_after};
 
 use crate::calls::make_calls;
 use crate::closed::push_closed_if;
+use crate::json_report::{push_json_end, push_json_table};
 use crate::options::Options;
 use crate::printing::push_reply;
 use crate::repair::{Administrator, begin, edits_of_slots, make_meanwhile};
@@ -30,10 +31,11 @@ fn push_table(
     db: &Db,
     table: u16,
     name: &str,
+    json: bool,
 ) -> Result<(), RunFault>
     requires accepted { select_fault db.now.catalog (all_rows table) ≡ None }
     ensures text { OnOk result (out.new.items
-        ≡ out.old.items ++ table_line (state_of db.now) table name.now) }
+        ≡ out.old.items ++ table_line json (state_of db.now) table name.now) }
     ensures err { IfErr result (λ e. e ≡ RunFault.Memory) }
 {
     let all = Select {
@@ -44,12 +46,28 @@ fn push_table(
         Ok(reply) => reply,
         Err(error) => return Err(RunFault::of_read(alloc, error)),
     };
-    push_named(out, name, &reply)?;
+    push_named(out, name, &reply, json)?;
     Ok(())
 }
 
-/// Pushes the name and the rows of a table.
-pub(crate) fn push_named(out: &mut Vec<u8>, name: &str, reply: &Reply) -> Result<(), AllocError>
+/// Pushes the name and the rows of a table, as JSON or as text.
+fn push_named(out: &mut Vec<u8>, name: &str, reply: &Reply, json: bool) -> Result<(), AllocError>
+    ensures { OnOk result (out.new.items
+        ≡ out.old.items ++ line_of_table json name.now reply.now) }
+{
+    if json {
+        push_json_table(out, name, reply)
+    } else {
+        push_table_text(out, name, reply)
+    }
+}
+
+/// Pushes the name and the rows of a table as text.
+pub(crate) fn push_table_text(
+    out: &mut Vec<u8>,
+    name: &str,
+    reply: &Reply,
+) -> Result<(), AllocError>
     ensures { OnOk result (out.new.items ≡ out.old.items ++ table_text name.now reply.now) }
 {
     out.extend_from_slice(b"table ")?;
@@ -61,9 +79,9 @@ pub(crate) fn push_named(out: &mut Vec<u8>, name: &str, reply: &Reply) -> Result
 }
 
 /// Pushes the lines of all tables.
-fn push_tables(alloc: Global, out: &mut Vec<u8>, db: &Db) -> Result<(), RunFault>
+fn push_tables(alloc: Global, out: &mut Vec<u8>, db: &Db, json: bool) -> Result<(), RunFault>
     ensures text { OnOk result (out.new.items
-        ≡ out.old.items ++ table_lines (state_of db.now) 0 db.now.catalog) }
+        ≡ out.old.items ++ table_lines json (state_of db.now) 0 db.now.catalog) }
     ensures err { IfErr result (λ e. e ≡ RunFault.Memory) }
 {
     let catalog = db.catalog();
@@ -71,19 +89,22 @@ fn push_tables(alloc: Global, out: &mut Vec<u8>, db: &Db) -> Result<(), RunFault
         let Some(name) = catalog.name(table) else {
             unreachable!()
         };
-        push_table(alloc, out, db, table, name)?;
+        push_table(alloc, out, db, table, name, json)?;
     }
     Ok(())
 }
 
 /// Pushes the last line.
-fn push_end(out: &mut Vec<u8>, db: &Db) -> Result<(), AllocError>
-    ensures { OnOk result (out.new.items ≡ out.old.items ++ end_line (state_of db.now)) }
+fn push_end(out: &mut Vec<u8>, db: &Db, json: bool) -> Result<(), AllocError>
+    ensures { OnOk result (out.new.items ≡ out.old.items ++ end_line json (state_of db.now)) }
 {
     let generation = db.generation();
     let time = db.now();
-    push_last(out, generation, time)?;
-    Ok(())
+    if json {
+        push_json_end(out, generation, time)
+    } else {
+        push_last(out, generation, time)
+    }
 }
 
 fn push_last(out: &mut Vec<u8>, generation: u64, time: u64) -> Result<(), AllocError>
@@ -96,12 +117,12 @@ fn push_last(out: &mut Vec<u8>, generation: u64, time: u64) -> Result<(), AllocE
 }
 
 /// Pushes the lines of all tables, and the last line.
-fn push_state(alloc: Global, out: &mut Vec<u8>, db: &Db) -> Result<(), RunFault>
-    ensures text { OnOk result (out.new.items ≡ out.old.items ++ last_lines db.now) }
+fn push_state(alloc: Global, out: &mut Vec<u8>, db: &Db, json: bool) -> Result<(), RunFault>
+    ensures text { OnOk result (out.new.items ≡ out.old.items ++ last_lines json db.now) }
     ensures err { IfErr result (λ e. e ≡ RunFault.Memory) }
 {
-    push_tables(alloc, out, db)?;
-    push_end(out, db)?;
+    push_tables(alloc, out, db, json)?;
+    push_end(out, db, json)?;
     Ok(())
 }
 
@@ -123,7 +144,8 @@ fn run_repair(
     requires few { length records.items ≤ 100000 }
     requires few_meanwhile { length plan.meanwhile ≤ 100000 }
     ensures lines { OnOk result (out.new.items ≡ out.old.items
-        ++ (text_of_records (records_meanwhile administrator.worker administrator.batch
+        ++ (lines_of_records options.now.json db.catalog
+        (records_meanwhile administrator.worker administrator.batch
         (length records.items + 1) (after_begin administrator.worker records.items db plan)
         plan.meanwhile)
         ++ repair_lines options.now administrator.worker administrator.batch
@@ -139,7 +161,16 @@ fn run_repair(
     let edits = edits_of_slots(alloc, &records, edits.as_slice())?;
     let mut db = db;
     begin(&mut db, administrator.worker, edits)?;
-    make_meanwhile(alloc, out, &mut records, &mut db, administrator, calls)?;
+    let json = options.json;
+    make_meanwhile(
+        alloc,
+        out,
+        &mut records,
+        &mut db,
+        administrator,
+        calls,
+        json,
+    )?;
     let worker = administrator.worker;
     finish(alloc, out, &mut db, worker, all, &records, options)?;
     Ok(db)
@@ -155,7 +186,8 @@ fn run_document(
 ) -> Result<Db, RunFault>
     requires { IsValidDocument document }
     ensures lines { OnOk result (out.new.items ≡ out.old.items
-        ++ (text_of_records (records_if options.now.batch document document.repair)
+        ++ (lines_of_records options.now.json document.catalog
+        (records_if options.now.batch document document.repair)
         ++ repair_lines_if options.now document document.repair)) }
     ensures database { IfOk result (λ db. db ≡ database_after options.now document) }
     ensures err { IfErr result (λ e. e ≡ RunFault.Memory) }
@@ -169,7 +201,8 @@ fn run_document(
     let db = Db::new(alloc, catalog.into_arc(), Limits::usual());
     let mut records = Vec::new(alloc);
     let are_kept = repair.is_some();
-    let db = make_calls(alloc, out, &mut records, are_kept, db, calls.into_vec())?;
+    let calls = calls.into_vec();
+    let db = make_calls(alloc, out, &mut records, are_kept, db, calls, options.json)?;
     match repair {
         Some(plan) => {
             let administrator = Administrator {
@@ -195,7 +228,7 @@ pub(crate) fn report_of(
 {
     let mut out = Vec::new(alloc);
     let db = run_document(alloc, &mut out, document, options)?;
-    push_end_of_run(alloc, &mut out, &db, options.closed)?;
+    push_end_of_run(alloc, &mut out, &db, options)?;
     Ok((out, db))
 }
 
@@ -205,13 +238,13 @@ pub fn push_end_of_run(
     alloc: Global,
     out: &mut Vec<u8>,
     db: &Db,
-    closed: bool,
+    options: &Options,
 ) -> Result<(), RunFault>
-    ensures text { OnOk result (out.new.items
-        ≡ out.old.items ++ (closed_lines_if closed db.now ++ last_lines db.now)) }
+    ensures text { OnOk result (out.new.items ≡ out.old.items
+        ++ (closed_lines_if options.now db.now ++ last_lines options.now.json db.now)) }
     ensures err { IfErr result (λ e. e ≡ RunFault.Memory) }
 {
-    push_closed_if(alloc, out, db, closed)?;
-    push_state(alloc, out, db)?;
+    push_closed_if(alloc, out, db, options)?;
+    push_state(alloc, out, db, options.json)?;
     Ok(())
 }

@@ -15,3 +15,10 @@ const STORED: &str =
 /// The report of the stored document.
 const REPORT: &str =
     "call 1 worker 1 slot 1 inserted\ncall 2 worker 1 time 1 rows 1 [1,\"ann\",10]\ntable acct rows 1 [1,\"ann\",10]\nend generation 0 time 1\n";
+
+/// The same report as JSON.
+const JSON_REPORT: &str = r#"{"call":1,"worker":1,"slot":1,"replies":["inserted"]}
+{"call":2,"worker":1,"time":1,"rows":[[1,"ann",10]]}
+{"table":"acct","rows":[[1,"ann",10]]}
+{"generation":0,"time":1}
+"#;

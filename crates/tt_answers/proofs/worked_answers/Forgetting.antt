@@ -63,6 +63,7 @@ slots : call_text accounts behind 15 (answers.Slots 4 (
     record {
       number = 2;
       worker = 1;
+      stamp = None;
       slot = record { action = Some (action_of (writes.Insert 0 (account (pos 1) (codes "ann") (pos 10)) ∷ [])); replies = Some (replies.Inserted ∷ []) };
       asked = None;
     }

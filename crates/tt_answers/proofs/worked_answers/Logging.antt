@@ -1,5 +1,5 @@
 -- The lines of a log that is made anew, of a session that has forgotten what lies before the time 7, in its generation 1.
-use Rattle.std.specs.Prelude.{◌≡◌, pos, negsuc, [], ◌∷◌, ◌++◌, codes, refl}
+use Rattle.std.specs.Prelude.{◌≡◌, pos, negsuc, [], ◌∷◌, ◌++◌, None, Some, codes, refl}
 use Rattle.std.specs.Fmt.{digits}
 use Rattle.tt_values.specs.declared.value.Value.TheVariants as values
 use Rattle.tt_values.specs.declared.statement.Change.TheVariants as changes
@@ -20,12 +20,12 @@ ground_slot : ground_line accounts (action_of (writes.Insert 0 (account (pos 1) 
 unfolding digits
 ground_slot = refl
 
-further_slot : slot_line accounts 3 (action_of (writes.Update 0 (changes.Add 2 (negsuc 2) ∷ []) (record { column = 0; how = Is; value = values.Int (pos 1) } ∷ []) ∷ []))
-    ≡ codes "{\"worker\":3,\"do\":[{\"update\":\"acct\",\"change\":[[\"add\",\"bal\",-3]],\"where\":[[\"id\",1]]}]}"
+further_slot : slot_line accounts 3 (action_of (writes.Update 0 (changes.Add 2 (negsuc 2) ∷ []) (record { column = 0; how = Is; value = values.Int (pos 1) } ∷ []) ∷ [])) (Some 1500)
+    ≡ codes "{\"worker\":3,\"do\":[{\"update\":\"acct\",\"change\":[[\"add\",\"bal\",-3]],\"where\":[[\"id\",1]]}],\"stamp\":1500}"
 unfolding digits
 further_slot = refl
 
-whole_slot : slot_line accounts 3 (whole_of (writes.Insert 0 (account (pos 1) (codes "ann") (pos 10)) ∷ []))
+whole_slot : slot_line accounts 3 (whole_of (writes.Insert 0 (account (pos 1) (codes "ann") (pos 10)) ∷ [])) None
     ≡ codes "{\"worker\":3,\"do\":[{\"insert\":\"acct\",\"row\":[1,\"ann\",10]}],\"whole\":true}"
 unfolding digits
 whole_slot = refl

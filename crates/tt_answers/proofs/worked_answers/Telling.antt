@@ -16,12 +16,14 @@ slots : call_text accounts nothing_forgotten 18 (answers.Slots 4 (
     record {
       number = 1;
       worker = 1;
+      stamp = None;
       slot = record { action = Some (action_of (writes.Insert 0 (account (pos 1) (codes "ann") (pos 10)) ∷ [])); replies = Some (replies.Inserted ∷ []) };
       asked = None;
     }
     ∷ record {
       number = 3;
       worker = 1;
+      stamp = Some 1000;
       slot = record {
         action = Some (action_of (writes.Update 0 (changes.Add 2 (pos 1) ∷ []) (record { column = 0; how = Is; value = values.Int (pos 1) } ∷ []) ∷ []));
         replies = Some (replies.Updated 1 ∷ []);
@@ -30,7 +32,7 @@ slots : call_text accounts nothing_forgotten 18 (answers.Slots 4 (
     }
     ∷ []))
     ≡ (codes "{\"call\":18,\"time\":4,\"slots\":[{\"slot\":1,\"worker\":1,\"do\":[{\"insert\":\"acct\",\"row\":[1,\"ann\",10]}],\"replies\":[\"inserted\"]},"
-    ++ codes "{\"slot\":3,\"worker\":1,\"do\":[{\"update\":\"acct\",\"change\":[[\"add\",\"bal\",1]],\"where\":[[\"id\",1]]}],\"replies\":[{\"updated\":1}]}]}\n")
+    ++ codes "{\"slot\":3,\"worker\":1,\"stamp\":1000,\"do\":[{\"update\":\"acct\",\"change\":[[\"add\",\"bal\",1]],\"where\":[[\"id\",1]]}],\"replies\":[{\"updated\":1}]}]}\n")
 unfolding digits
 slots = refl
 
@@ -39,6 +41,7 @@ cancelled : call_text accounts nothing_forgotten 19 (answers.Slots 4 (
     record {
       number = 2;
       worker = 2;
+      stamp = None;
       slot = record { action = None; replies = None };
       asked = Some (action_of (writes.Update 0 (changes.Set 2 (values.Int (pos 0)) ∷ []) [] ∷ []));
     }
@@ -53,6 +56,7 @@ replaced : call_text accounts nothing_forgotten 25 (answers.Slots 4 (
     record {
       number = 2;
       worker = 2;
+      stamp = None;
       slot = record {
         action = Some (action_of (
             writes.Delete 0 (record { column = 1; how = Is; value = values.Text (codes "bob") } ∷ record { column = 2; how = AtLeast; value = values.Int (pos 0) } ∷ [])
@@ -73,6 +77,7 @@ whole_slot : call_text accounts nothing_forgotten 26 (answers.Slots 4 (
     record {
       number = 1;
       worker = 1;
+      stamp = None;
       slot = record { action = Some (whole_of (writes.Insert 0 (account (pos 1) (codes "ann") (pos 10)) ∷ [])); replies = Some (replies.Inserted ∷ []) };
       asked = None;
     }
@@ -84,9 +89,9 @@ whole_slot = refl
 
 -- a whole action that a repair cancelled, and one that it replaced by the same writes
 asked_whole : call_text accounts nothing_forgotten 27 (answers.Slots 4 (
-    record { number = 2; worker = 2; slot = record { action = None; replies = None }; asked = Some (whole_of []) }
-    ∷ record { number = 3; worker = 1; slot = record { action = Some (action_of []); replies = Some [] }; asked = Some (whole_of []) }
-    ∷ record { number = 4; worker = 1; slot = record { action = Some (whole_of []); replies = Some [] }; asked = Some (action_of []) }
+    record { number = 2; worker = 2; stamp = None; slot = record { action = None; replies = None }; asked = Some (whole_of []) }
+    ∷ record { number = 3; worker = 1; stamp = None; slot = record { action = Some (action_of []); replies = Some [] }; asked = Some (whole_of []) }
+    ∷ record { number = 4; worker = 1; stamp = None; slot = record { action = Some (whole_of []); replies = Some [] }; asked = Some (action_of []) }
     ∷ []))
     ≡ (codes "{\"call\":27,\"time\":4,\"slots\":[{\"slot\":2,\"worker\":2,\"do\":null,\"replies\":null,\"asked\":[],\"asked_whole\":true},"
     ++ codes "{\"slot\":3,\"worker\":1,\"do\":[],\"replies\":[],\"asked\":[],\"asked_whole\":true},"

@@ -6,13 +6,13 @@ use Rattle.clap.specs.declared.error.kind.ErrorKind.TheVariants.{MissingRequired
 use Rattle.clap.proofs.OnLiterals.{clap_on_literals}
 use Rattle.tt_workload.specs.declared.options.Options.{Options}
 use Rattle.tt_cli.specs.declared.command_line.Cli.TheVariants as commands
-use Rattle.tt_cli.specs.CommandLine.{fault_of_words, IsCommandOf, IsBatchOf, IsRoundsOf, IsClosedOf, IsWhyOf, IsDiffOf, IsDryOf}
+use Rattle.tt_cli.specs.CommandLine.{fault_of_words, IsCommandOf, IsBatchOf, IsRoundsOf, IsClosedOf, IsWhyOf, IsDiffOf, IsJsonOf, IsDryOf}
 
 -- the words of a command line, behind the program's name
 abbrev line : List Text → List Text
 line words = codes "timetravel" ∷ words
 
--- `run` without options: a batch of 16, 8 rounds, neither closed generations nor causes nor differences in the report, and no dry run
+-- `run` without options: a batch of 16, 8 rounds, neither closed generations nor causes nor differences in the report, which is text, and no dry run
 abbrev run_alone : List Text
 run_alone = line (codes "run" ∷ [])
 
@@ -48,6 +48,10 @@ dry_of_run : (given : Bool) → IsDryOf run_alone given → given ≡ false
 unfolding IsDryOf clap_on_literals
 dry_of_run given is = is
 
+json_of_run : (given : Bool) → IsJsonOf run_alone given → given ≡ false
+unfolding IsJsonOf clap_on_literals
+json_of_run given is = is
+
 -- `--why` asks for causes alone
 abbrev replay_why : List Text
 replay_why = line (codes "replay" ∷ codes "--why" ∷ [])
@@ -63,6 +67,23 @@ closed_of_replay given is = is
 diff_of_replay : (given : Bool) → IsDiffOf replay_why given → given ≡ false
 unfolding IsDiffOf clap_on_literals
 diff_of_replay given is = is
+
+json_of_replay : (given : Bool) → IsJsonOf replay_why given → given ≡ false
+unfolding IsJsonOf clap_on_literals
+json_of_replay given is = is
+
+-- `--json` stands beside the others, in any order
+json_of_replay_with_json : (given : Bool) → IsJsonOf (line (codes "replay" ∷ codes "--json" ∷ codes "--dry" ∷ [])) given → given ≡ true
+unfolding IsJsonOf clap_on_literals
+json_of_replay_with_json given is = is
+
+dry_of_replay_with_json : (given : Bool) → IsDryOf (line (codes "replay" ∷ codes "--json" ∷ codes "--dry" ∷ [])) given → given ≡ true
+unfolding IsDryOf clap_on_literals
+dry_of_replay_with_json given is = is
+
+json_of_run_with_json : (given : Bool) → IsJsonOf (line (codes "run" ∷ codes "--closed" ∷ codes "--json" ∷ [])) given → given ≡ true
+unfolding IsJsonOf clap_on_literals
+json_of_run_with_json given is = is
 
 -- `--dry` and `--diff` are read each by its own word
 abbrev replay_dry : List Text

@@ -125,6 +125,7 @@ fn a_document_is_run_alone(rt: HostRuntime) {
         why: false,
         diff: false,
         dry: false,
+        json: false,
     };
     let (mut first, mut second) = (REPAIRED.as_bytes(), REPAIRED.as_bytes());
     let mut writer = Cursor::new([0u8; 512]);

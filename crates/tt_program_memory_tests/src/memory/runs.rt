@@ -59,6 +59,7 @@ fn runs<T: Threads + Wait + Abort + Sync>(rt: &T, alloc: Global, document: &Docu
         why: false,
         diff: false,
         dry: false,
+        json: false,
     };
     mark(alloc);
     let report = run_workers(rt, alloc, document, &options, NoGate);

@@ -79,7 +79,7 @@ answers_faults =
     ∷ []
 
 faults : printed lines_faults ≡ answers (opened ∷ answers_faults)
-unfolding is_utf8 chars encode_utf8 lex content short_escape punctuate word after_number json.value json.items json.members scan_numeral number_of value_of_json value_of_line declaration members_of_opening column table_after condition statements.insert actions.write replacement cancel replace edit page read preview questions.slots questions.span questions.row_named questions.changes questions.changes_asked questions.call_kind questions.change_page one_write begin step bare only_true members_of_request row_writes digits
+unfolding is_utf8 chars encode_utf8 lex content short_escape punctuate word after_number json.value json.items json.members scan_numeral number_of value_of_json value_of_line declaration members_of_opening column table_after condition statements.insert actions.write replacement cancel replace edit page read preview questions.slots questions.slot_filter questions.span questions.row_named questions.changes questions.changes_asked questions.call_kind questions.change_page one_write begin step bare only_true members_of_request row_writes digits
 faults = refl
 
 -- openings with a fault, which are not counted, and then one without

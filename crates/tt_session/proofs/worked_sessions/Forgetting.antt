@@ -65,5 +65,5 @@ answers_forgetting =
     ∷ []
 
 forgetting : printed lines_forgetting ≡ answers (opened ∷ answers_forgetting)
-unfolding is_utf8 chars encode_utf8 lex content short_escape punctuate word after_number json.value json.items json.members scan_numeral number_of value_of_json value_of_line declaration members_of_opening column table_after change condition statements.insert statements.update cancel edit page read preview questions.slots questions.span questions.row_named questions.changes questions.changes_asked questions.call_kind questions.change_page one_write begin step end_of_repair finish only_true forget members_of_request row_writes dirty_after reexecuted_count digits
+unfolding is_utf8 chars encode_utf8 lex content short_escape punctuate word after_number json.value json.items json.members scan_numeral number_of value_of_json value_of_line declaration members_of_opening column table_after change condition statements.insert statements.update cancel edit page read preview questions.slots questions.slot_filter questions.span questions.row_named questions.changes questions.changes_asked questions.call_kind questions.change_page one_write begin step end_of_repair finish only_true forget members_of_request row_writes dirty_after reexecuted_count digits
 forgetting = refl

@@ -86,7 +86,7 @@ answers_replaced_action =
     ∷ []
 
 replaced_action : session_text lines_replaced_action no_losses ≡ answers (answers_replaced_action)
-unfolding is_utf8 chars encode_utf8 lex content short_escape punctuate word after_number json.value json.items json.members scan_numeral number_of value_of_json value_of_line declaration members_of_opening column table_after condition statements.insert statements.delete actions.action actions.item_of_action actions.write replacement cancel replace edit page read preview questions.slots questions.span questions.row_named questions.changes questions.changes_asked questions.call_kind questions.change_page one_write several_writes begin step end_of_repair finish only_true members_of_request row_writes dirty_after reexecuted_count digits
+unfolding is_utf8 chars encode_utf8 lex content short_escape punctuate word after_number json.value json.items json.members scan_numeral number_of value_of_json value_of_line declaration members_of_opening column table_after condition statements.insert statements.delete actions.action actions.item_of_action actions.write replacement cancel replace edit page read preview questions.slots questions.slot_filter questions.span questions.row_named questions.changes questions.changes_asked questions.call_kind questions.change_page one_write several_writes begin step end_of_repair finish only_true members_of_request row_writes dirty_after reexecuted_count digits
 replaced_action = refl
 
 -- what is for the repair of another worker than worker 2, who began it, is refused, and whoever asks for its end: worker 1 may end it

@@ -30,6 +30,7 @@ abbrev limited : ℕ → Session
 limited entries = sessions.Open (record {
   database = record { catalog = tables; limits = record usual_limits { events = entries }; history = [] };
   numbering = nothing_forgotten;
+  stamps = [];
   records = [];
   most_records = 0;
   calls = 0;

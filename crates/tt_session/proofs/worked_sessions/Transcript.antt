@@ -89,5 +89,5 @@ answers_transcript =
     ∷ []
 
 transcript : printed lines_transcript ≡ answers (opened ∷ answers_transcript)
-unfolding is_utf8 chars encode_utf8 lex content short_escape punctuate word after_number json.value json.items json.members scan_numeral number_of value_of_json value_of_line declaration members_of_opening column table_after change condition statements.insert statements.update actions.action cancel edit page read preview questions.slots questions.span questions.row_named questions.changes questions.changes_asked questions.call_kind questions.change_page one_write several_writes begin step end_of_repair finish abort bare only_true members_of_request row_writes dirty_after reexecuted_count digits
+unfolding is_utf8 chars encode_utf8 lex content short_escape punctuate word after_number json.value json.items json.members scan_numeral number_of value_of_json value_of_line declaration members_of_opening column table_after change condition statements.insert statements.update actions.action cancel edit page read preview questions.slots questions.slot_filter questions.span questions.row_named questions.changes questions.changes_asked questions.call_kind questions.change_page one_write several_writes begin step end_of_repair finish abort bare only_true members_of_request row_writes dirty_after reexecuted_count digits
 transcript = refl

@@ -64,5 +64,5 @@ answers_whole =
     ∷ []
 
 whole : session_text lines_whole no_losses ≡ answers (opened ∷ answers_whole)
-unfolding is_utf8 chars encode_utf8 lex content short_escape punctuate word after_number json.value json.items json.members scan_numeral number_of value_of_json value_of_line declaration members_of_opening column table_after change condition statements.insert statements.update actions.action actions.item_of_action actions.write replacement replace edit page read questions.slots questions.span questions.row_named one_write several_writes begin end_of_repair finish only_true members_of_request row_writes dirty_after reexecuted_count digits
+unfolding is_utf8 chars encode_utf8 lex content short_escape punctuate word after_number json.value json.items json.members scan_numeral number_of value_of_json value_of_line declaration members_of_opening column table_after change condition statements.insert statements.update actions.action actions.item_of_action actions.write replacement replace edit page read questions.slots questions.slot_filter questions.span questions.row_named one_write several_writes begin end_of_repair finish only_true members_of_request row_writes dirty_after reexecuted_count digits
 whole = refl

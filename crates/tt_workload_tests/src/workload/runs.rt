@@ -1,5 +1,5 @@
 use super::devices::{Sink, Source};
-use super::{REPORT, STORED};
+use super::{JSON_REPORT, REPORT, STORED};
 use crate::same::same;
 use tt_workload::{Options, run_alone};
 
@@ -15,6 +15,7 @@ fn one_byte_at_a_time(rt: HostRuntime) {
             why: false,
             diff: false,
             dry: false,
+            json: false,
         }
         .fits()
     );
@@ -24,4 +25,17 @@ fn one_byte_at_a_time(rt: HostRuntime) {
     assert!(rt; outcome.is_ok());
     assert!(rt; writer.written.as_slice() == REPORT.as_bytes());
     same(&rt, &writer.flushed, &REPORT.len());
+}
+
+#[test]
+fn json_lines(rt: HostRuntime) {
+    let options = Options {
+        json: true,
+        ..Options::usual()
+    };
+    let mut reader = Source::slow(STORED.as_bytes(), usize::MAX);
+    let mut writer = Sink::new(rt.alloc(), 1, usize::MAX);
+    let outcome = run_alone(rt.alloc(), &mut reader, &mut writer, &options);
+    assert!(rt; outcome.is_ok());
+    assert!(rt; writer.written.as_slice() == JSON_REPORT.as_bytes());
 }

@@ -11,6 +11,6 @@ pub returns : goal.returns
 returns c =
     subst (λ t. c.push-2.new.self.items ≡ c.args.out.now.items ++ t)
     (array_text-first (cause_text c.args.catalog.now c.args.numbering) c.args.redone.now c.first-item.result c.in-len1-up.len_at_least c.first-item.is)
-    (four-pieces c.args.out.now.items c.push.new.self.items c.push_entry.new.out.items c.push_further_entries.new.out.items c.push-2.new.self.items
+    (four-pieces c.args.out.now.items c.push.new.self.items c.push_cause_entry.new.out.items c.push_further_entries.new.out.items c.push-2.new.self.items
     (codes "[") (cause_text c.args.catalog.now c.args.numbering c.first-item.result) (flat_map further_item (map (cause_text c.args.catalog.now c.args.numbering) (take (length c.args.redone.now - 1) (drop 1 c.args.redone.now)))) (codes "]")
-    c.in_ok-push.ensures.items c.in_ok-push_entry.ensures c.in_ok-push_further_entries.ensures c.in_ok-push-2.ensures.items)
+    c.in_ok-push.ensures.items c.in_ok-push_cause_entry.ensures c.in_ok-push_further_entries.ensures c.in_ok-push-2.ensures.items)

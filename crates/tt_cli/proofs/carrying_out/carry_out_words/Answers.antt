@@ -8,4 +8,4 @@ returns-in-Ok-clause-words g c =
     let asked = c.command_of-asked.ensures in
     let done = c.carry_out.ensures in
     rw (c.in-Ok.is, ← is_slice) (carries_out _ c.command_of-asked.result _ _ _ _ _
-    asked.kinds asked.command asked.batch asked.closed asked.why asked.diff asked.dry asked.rounds done.run done.kind done.unread done.unwritten done.usage)
+    asked.kinds asked.command asked.batch asked.closed asked.why asked.diff asked.json asked.dry asked.rounds done.run done.kind done.unread done.unwritten done.usage)

@@ -2,7 +2,7 @@ use Rattle.std.proofs.Common.{None, Some, [], ◌≡◌, ◌≢◌, ◌∙◌, a
 use Rattle.clap.specs.Words.{App, HasKind, app_of, fault_of}
 use Rattle.tt_cli.specs.declared.command_line.Cli.TheVariants as commands
 use Rattle.tt_cli.specs.CommandLine.{command_line}
-use Rattle.tt_cli.proofs.CommandLemmas.{never_without, path_is, has_kind, has_log, has_session, name_as, batch_is, batch_read, closed_is, why_is, diff_is, dry_is, command_is, enters_one, existing_is, faultless_as, faultless_on, faultless_without, faulty, has_options, is_replay, is_simple_command, never_none, rounds_are, rounds_read}
+use Rattle.tt_cli.proofs.CommandLemmas.{never_without, path_is, has_kind, has_log, has_session, name_as, batch_is, batch_read, closed_is, why_is, diff_is, dry_is, json_is, command_is, enters_one, existing_is, faultless_as, faultless_on, faultless_without, faulty, has_options, is_replay, is_simple_command, never_none, rounds_are, rounds_read}
 use Rattle.tt_cli.proofs.NumberLemmas.{ReadsRounds}
 use Rattle.tt_cli.proofs.command_line.command_of.Goals as goal
 
@@ -179,6 +179,7 @@ returns-then-eq-3 c =
       closed = closed_is words c.in_ok-matches.matches enters has inner found c.get_flag-closed.result c.get_flag-closed.ensures.value c.get_flag-closed.ensures.other;
       why = why_is words c.in_ok-matches.matches enters has inner found c.get_flag-why.result c.get_flag-why.ensures.value c.get_flag-why.ensures.other;
       diff = diff_is words c.in_ok-matches.matches enters has inner found c.get_flag-diff.result c.get_flag-diff.ensures.value c.get_flag-diff.ensures.other;
+      json = json_is words c.in_ok-matches.matches enters has inner found c.get_flag-json.result c.get_flag-json.ensures.value c.get_flag-json.ensures.other;
       dry = dry_is words c.in_ok-matches.matches enters has inner found c.get_flag-dry.result c.get_flag-dry.ensures.none c.get_flag-dry.ensures.value c.get_flag-dry.ensures.other;
       rounds = rounds_are words c.in_ok-matches.matches enters c.unwrap_or-rounds.result rounds;
     }
@@ -213,6 +214,7 @@ returns c =
       closed = closed_is words c.in_ok-matches.matches enters has inner found c.get_flag-closed.result c.get_flag-closed.ensures.value c.get_flag-closed.ensures.other;
       why = why_is words c.in_ok-matches.matches enters has inner found c.get_flag-why.result c.get_flag-why.ensures.value c.get_flag-why.ensures.other;
       diff = diff_is words c.in_ok-matches.matches enters has inner found c.get_flag-diff.result c.get_flag-diff.ensures.value c.get_flag-diff.ensures.other;
+      json = json_is words c.in_ok-matches.matches enters has inner found c.get_flag-json.result c.get_flag-json.ensures.value c.get_flag-json.ensures.other;
       dry = dry_is words c.in_ok-matches.matches enters has inner found c.get_flag-dry.result c.get_flag-dry.ensures.none c.get_flag-dry.ensures.value c.get_flag-dry.ensures.other;
       rounds = rounds_are words c.in_ok-matches.matches enters c.unwrap_or-rounds.result rounds;
     }

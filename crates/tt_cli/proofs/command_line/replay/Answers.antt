@@ -2,7 +2,7 @@ use Rattle.std.proofs.Common.{ap, ap₂, codes, ◌≡◌, ◌∙◌}
 use Rattle.std.proofs.lemmas.Result.{IfOk-weaker}
 use Rattle.clap.specs.Words.{Rule, app_of, new_app, with_rule}
 use Rattle.clap.specs.Simple.{app_of_fields}
-use Rattle.tt_cli.specs.CommandLine.{batch, closed, why, diff}
+use Rattle.tt_cli.specs.CommandLine.{batch, closed, diff, json, why}
 use Rattle.tt_cli.proofs.BuildLemmas.{simple_is_local}
 use Rattle.tt_cli.proofs.command_line.replay.Goals as goal
 
@@ -18,6 +18,8 @@ returns c =
     c.in_ok-arg-3.ensures.shape (simple_is_local c.why.result (ap (λ (a : Rule). a.is_simple) c.why.ensures)) ∙ ap₂ with_rule closed_is c.why.ensures in
     let diff_is : app_of c.in_ok-arg-4.field-0 ≡ with_rule (with_rule (with_rule (with_rule (new_app (codes "replay")) batch) closed) why) diff =
     c.in_ok-arg-4.ensures.shape (simple_is_local c.diff.result (ap (λ (a : Rule). a.is_simple) c.diff.ensures)) ∙ ap₂ with_rule why_is c.diff.ensures in
-    IfOk-weaker c.arg-5.result _ _
-    (λ r h. h.shape (simple_is_local c.dry.result (ap (λ (a : Rule). a.is_simple) c.dry.ensures)) ∙ ap₂ with_rule diff_is c.dry.ensures)
-    c.arg-5.ensures
+    let json_is : app_of c.in_ok-arg-5.field-0 ≡ with_rule (with_rule (with_rule (with_rule (with_rule (new_app (codes "replay")) batch) closed) why) diff) json =
+    c.in_ok-arg-5.ensures.shape (simple_is_local c.json.result (ap (λ (a : Rule). a.is_simple) c.json.ensures)) ∙ ap₂ with_rule diff_is c.json.ensures in
+    IfOk-weaker c.arg-6.result _ _
+    (λ r h. h.shape (simple_is_local c.dry.result (ap (λ (a : Rule). a.is_simple) c.dry.ensures)) ∙ ap₂ with_rule json_is c.dry.ensures)
+    c.arg-6.ensures

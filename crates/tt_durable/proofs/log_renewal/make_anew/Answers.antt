@@ -11,7 +11,7 @@ take_new-requires-clause-lines g c = λ told.
     let D = g.D.Device in
     let of = D in
     let f = c.args.forgetting.now in
-    (all-written of c.begin_new.new.self c.write_new.new.log (lines_of_database f.db f.numbering c.args.terms)
+    (all-written of c.begin_new.new.self c.write_new.new.log (lines_of_database f.db f.numbering f.stamps c.args.terms)
     (c.in-Ok-write_new.ensures.ok (c.write_new.ensures.tells.1 told))).1
 
 pub returns-in-Ok-write_new-clause-ok : goal.returns-in-Ok-write_new-clause-ok
@@ -24,7 +24,7 @@ returns-in-Ok-write_new-clause-ok g c =
     let mid = c.write_new.new.log in
     let after = c.take_new.new.log in
     let b = c.begin_new.ensures in
-    let lines : List (List ℕ) = lines_of_database f.db f.numbering c.args.terms in
+    let lines : List (List ℕ) = lines_of_database f.db f.numbering f.stamps c.args.terms in
     on_ok c.take_new.result
     (λ took told.
     let told_1 = b.tells.0 told in
@@ -51,7 +51,7 @@ returns-in-Ok-write_new-clause-err g c =
     let mid = c.write_new.new.log in
     let after = c.take_new.new.log in
     let b = c.begin_new.ensures in
-    let lines : List (List ℕ) = lines_of_database f.db f.numbering c.args.terms in
+    let lines : List (List ℕ) = lines_of_database f.db f.numbering f.stamps c.args.terms in
     fails-then _ _ c.take_new.result c.take_new.ensures.err
     (λ fault failed told.
     let told_1 = b.tells.0 told in

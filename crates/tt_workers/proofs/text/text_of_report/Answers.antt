@@ -1,6 +1,7 @@
 -- The lines one after another.
 use Rattle.std.proofs.Common.{◌≡◌, ℕ, List, [], ◌++◌, ap, ◌∙◌, append_assoc}
-use Rattle.tt_workload.specs.Records.{text_of_records, text_of_changes}
+use Rattle.tt_db.specs.Database.{Database}
+use Rattle.tt_workload.specs.Records.{lines_of_records, lines_of_changes}
 use Rattle.tt_workload.specs.Report.{closed_lines_if, last_lines}
 use Rattle.tt_workers.specs.Report.{repair_lines_if, diff_of_repair_if}
 use Rattle.tt_workers.proofs.text.text_of_report.Goals as goal
@@ -22,6 +23,7 @@ returns-clause-text c =
     let lines = joined c.new-out.result.items c.push_records.new.out.items c.push_repair_if.new.out.items c.push_changes.new.out.items
     c.push_diff_of_repair_if.new.out.items c.push_end_of_run.new.out.items _ _ _ _ _ c.new-out.ensures.items c.in_ok-push_records.ensures
     c.in_ok-push_repair_if.ensures c.in_ok-push_changes.ensures c.in_ok-push_diff_of_repair_if.ensures c.in_ok-push_end_of_run.ensures.text in
-    lines ∙ (λ i. text_of_records (c.deref.ensures.value i) ++ (repair_lines_if options.why (c.get-db.ensures i) report.repaired
-    ++ (text_of_changes (c.deref-2.ensures.value i) ++ (diff_of_repair_if options.diff (c.get-db.ensures i) report.repaired
-    ++ (closed_lines_if options.closed (c.get-db.ensures i) ++ last_lines (c.get-db.ensures i))))))
+    let catalog = c.catalog-catalog.ensures ∙ ap (λ (d : Database). d.catalog) c.get-db.ensures in
+    lines ∙ (λ i. lines_of_records options.json (catalog i) (c.deref.ensures.value i) ++ (repair_lines_if options (c.get-db.ensures i) report.repaired
+    ++ (lines_of_changes options.json (catalog i) (c.deref-2.ensures.value i) (c.deref-3.ensures.value i)
+    ++ (diff_of_repair_if options (c.get-db.ensures i) report.repaired ++ (closed_lines_if options (c.get-db.ensures i) ++ last_lines options.json (c.get-db.ensures i))))))

@@ -14,5 +14,5 @@ loop-earlier-preserved c =
     let count = c.slots_done-count.ensures in
     let some : l.earlier < slots_done db c.args.repair = omega (arith, c.loop-earlier-test.true, count) in
     let pushed = c.in_ok-push_redone_slot.ensures
-    ∙ ap (λ (ts : Tables). l.out.items ++ redone_line ts (l.earlier + 1) (option_map cause_told c.cause_by.result)) c.catalog.ensures in
-    lines-next db c.args.repair l.earlier l.out.items c.push_redone_slot.new.out.items _ _ some c.cause_by.ensures pushed l.invariant
+    ∙ ap (λ (ts : Tables). l.out.items ++ redone_line c.args.json ts (l.earlier + 1) (option_map cause_told c.cause_by-cause.result)) c.catalog.ensures in
+    lines-next c.args.json db c.args.repair l.earlier l.out.items c.push_redone_slot.new.out.items _ _ some c.cause_by-cause.ensures pushed l.invariant

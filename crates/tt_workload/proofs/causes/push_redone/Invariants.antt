@@ -6,4 +6,4 @@ use Rattle.tt_workload.proofs.causes.push_redone.Given as goal
 
 abbrev pub invariant-loop-earlier : goal.invariant-loop-earlier
 invariant-loop-earlier l =
-    l.out.items ++ lines_behind l.db l.repair l.earlier ≡ l.fn.out.items ++ redone_lines l.db l.repair
+    l.out.items ++ lines_behind l.fn.json l.db l.repair l.earlier ≡ l.fn.out.items ++ redone_lines l.fn.json l.db l.repair

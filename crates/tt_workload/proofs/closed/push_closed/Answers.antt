@@ -1,6 +1,5 @@
 -- The closed generations that are kept are those from the oldest up to the one before the current one.
-use Rattle.std.proofs.Common.{◌≡◌, ◌+◌, ◌-◌, ◌≤◌, ◌++◌, drop, Some, IsSome, refl, sym, ap, subst, ◌∙◌, arith, append-nil}
-use Rattle.tt_db.specs.State.{slots_in}
+use Rattle.std.proofs.Common.{◌≡◌, ◌+◌, ◌-◌, ◌≤◌, ◌++◌, drop, IsSome, refl, sym, ap, subst, ◌∙◌, arith, append-nil}
 use Rattle.tt_db.specs.Database.{state_of, oldest_in}
 use Rattle.tt_db.specs.Laws.{KeepsLastGenerations}
 use Rattle.tt_workload.specs.Report.{closed_lines}
@@ -13,7 +12,7 @@ loop-generation-init c =
     let kept : KeepsLastGenerations db.limits (state_of db) = c.last_generations_are_kept.ensures db.limits db.history in
     let none : c.oldest-generation.result - oldest_in db ≡ 0 = omega (arith, c.oldest-generation.ensures) in
     record {
-      lines = ap (λ n. c.args.out.now.items ++ closed_lines db.catalog (drop n (state_of db).closed)) none;
+      lines = ap (λ n. c.args.out.now.items ++ closed_lines c.args.json db.catalog (drop n (state_of db).closed)) none;
       least = omega (arith, c.oldest-generation.ensures);
       most = omega (arith, c.oldest-generation.ensures, oldest-most db.limits (state_of db) kept);
     }
@@ -33,7 +32,7 @@ loop-generation-preserved c =
     let kept : KeepsLastGenerations db.limits (state_of db) = c.last_generations_are_kept.ensures db.limits db.history in
     let below : l.generation + 1 ≤ (state_of db).generation = omega (arith, c.loop-generation-test.true, c.generation-generation-end.ensures) in
     record {
-      lines = closed_lines-next db.limits (state_of db) db.catalog l.generation l.out.items _ c.push_generation.new.out.items kept l.invariant.least (omega (arith, below)) l.invariant.lines
+      lines = closed_lines-next c.args.json db.limits (state_of db) db.catalog l.generation l.out.items _ c.push_generation.new.out.items kept l.invariant.least (omega (arith, below)) l.invariant.lines
           c.in_ok-push_generation.ensures.text;
       least = omega (arith, l.invariant.least);
       most = below;
@@ -44,5 +43,5 @@ returns-clause-text c =
     let db = c.args.db.now in
     let l = c.loop-generation in
     let kept : KeepsLastGenerations db.limits (state_of db) = c.last_generations_are_kept.ensures db.limits db.history in
-    let end = closed_lines-end db.limits (state_of db) db.catalog l.generation kept (omega (arith, c.loop-generation-test.false, c.generation-generation-end.ensures)) in
+    let end = closed_lines-end c.args.json db.limits (state_of db) db.catalog l.generation kept (omega (arith, c.loop-generation-test.false, c.generation-generation-end.ensures)) in
     sym (append-nil l.out.items) ∙ ap (λ ls. l.out.items ++ ls) (sym end) ∙ l.invariant.lines

@@ -8,7 +8,7 @@ abbrev pub invariant-loop-generation : goal.invariant-loop-generation
 invariant-loop-generation l =
     let S = state_of l.db in
     record {
-      lines : l.out.items ++ closed_lines l.db.catalog (drop (l.generation - oldest_in l.db) S.closed) ≡ l.fn.out.items ++ closed_lines l.db.catalog S.closed;
+      lines : l.out.items ++ closed_lines l.fn.json l.db.catalog (drop (l.generation - oldest_in l.db) S.closed) ≡ l.fn.out.items ++ closed_lines l.fn.json l.db.catalog S.closed;
       least : oldest_in l.db ≤ l.generation;
       most : l.generation ≤ S.generation;
     }

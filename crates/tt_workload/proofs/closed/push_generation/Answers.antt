@@ -11,5 +11,5 @@ pub loop-table-preserved : goal.loop-table-preserved
 loop-table-preserved c =
     let db = c.args.db.now in
     let W = slots_or_none (slots_in (state_of db) c.args.generation) in
-    closed_table_lines-named c.args.generation W db.catalog c.loop-table.table c.in-Some.name.now c.loop-table.out.items _ c.push_closed_table.new.out.items
+    closed_table_lines-named c.args.json c.args.generation W db.catalog c.loop-table.table c.in-Some.name.now c.loop-table.out.items _ c.push_closed_table.new.out.items
     (c.in-Some.ensures ∙ ap (λ (ts : Tables). option_map (λ t. t.0) (slice_get ts c.loop-table.table)) c.catalog-catalog.ensures) c.loop-table.invariant c.in_ok-push_closed_table.ensures.text

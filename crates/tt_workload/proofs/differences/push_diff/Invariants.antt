@@ -5,4 +5,4 @@ use Rattle.tt_workload.proofs.DiffLineLemmas.{lines_from}
 use Rattle.tt_workload.proofs.differences.push_diff.Given as goal
 
 abbrev pub invariant-loop-table : goal.invariant-loop-table
-invariant-loop-table l = l.out.items ++ lines_from l.db l.repair l.table ≡ l.fn.out.items ++ diff_lines l.db l.repair
+invariant-loop-table l = l.out.items ++ lines_from l.fn.json l.db l.repair l.table ≡ l.fn.out.items ++ diff_lines l.fn.json l.db l.repair

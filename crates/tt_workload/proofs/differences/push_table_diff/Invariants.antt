@@ -7,5 +7,5 @@ use Rattle.tt_workload.proofs.differences.push_table_diff.Given as goal
 
 abbrev pub invariant-loop-change : goal.invariant-loop-change
 invariant-loop-change l =
-    l.out.items ++ flat_map (λ c. diff_line l.catalog l.table (change_told c)) (drop l.change-index l.changes)
-    ≡ l.fn.out.items ++ flat_map (λ c. diff_line l.catalog l.table (change_told c)) l.changes
+    l.out.items ++ flat_map (λ c. diff_line l.json l.catalog l.table (change_told c)) (drop l.change-index l.changes)
+    ≡ l.fn.out.items ++ flat_map (λ c. diff_line l.json l.catalog l.table (change_told c)) l.changes

@@ -6,4 +6,4 @@ use Rattle.tt_workload.proofs.report.push_tables.Given as goal
 
 abbrev pub invariant-loop-table : goal.invariant-loop-table
 invariant-loop-table l =
-    l.out.items ++ table_lines (state_of l.db) l.table (drop l.table l.db.catalog) ≡ l.fn.out.items ++ table_lines (state_of l.db) 0 l.db.catalog
+    l.out.items ++ table_lines l.fn.json (state_of l.db) l.table (drop l.table l.db.catalog) ≡ l.fn.out.items ++ table_lines l.fn.json (state_of l.db) 0 l.db.catalog

@@ -1,10 +1,10 @@
--- the first record goes, while there are too many
-use Rattle.std.proofs.Common.{◌∙◌, arith}
-use Rattle.tt_commands.proofs.RecordLemmas.{last_items-pop}
+-- What is left has few enough rows.
+use Rattle.std.proofs.Common.{ap, arith}
+use Rattle.tt_commands.specs.Records.{rows_of_records}
+use Rattle.tt_commands.proofs.RecordLemmas.{few_rows-last}
 use Rattle.tt_commands.proofs.records.Records.keep_last.Goals as goal
 
-pub loop-self-preserved-in-loop-self : goal.loop-self-preserved-in-loop-self
-loop-self-preserved-in-loop-self c =
-    let items = c.loop-self.self-inside.queue.items in
-    last_items-pop c.args.most c.pop_front-oldest.result items c.pop_front-oldest.new.self.items (omega (arith, c.loop-self-test.true, c.len.ensures)) c.pop_front-oldest.ensures.items
-    ∙ c.loop-self.invariant
+pub invariant_of-self : goal.invariant_of-self
+invariant_of-self c =
+    let left = c.keep_last.ensures in
+    (left.rows, omega (arith, left.rows, ap rows_of_records left.records, few_rows-last c.args.most c.self.inside.queue.items))

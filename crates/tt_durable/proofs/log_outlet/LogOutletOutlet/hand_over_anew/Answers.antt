@@ -27,7 +27,7 @@ returns-in_err-hand_over_alone-in-Ok-clause-stopped g c =
           let old = c.args.self.now.log in
           let h = so_far told in
           let took = c.in-Ok.ensures.ok h.tells in
-          stopped-anew of first.log.device start over old.device h (kept_line line) (lines_of_database f.db f.numbering terms) text
+          stopped-anew of first.log.device start over old.device h (kept_line line) (lines_of_database f.db f.numbering f.stamps terms) text
           (step-anew of first.log.device start over line f terms text refusal p c.in-Ok.ensures.readable) c.make_anew.new.log c.hand_over_alone.new.self.log took.any_moment took.lines_are took.shown
           (omega (arith, took.failures)) (λ now. absurd (c.in-Ok.ensures.no_new h.tells now)) c.hand_over_alone.new.self.error more (c.in_err-hand_over_alone-in-Ok.ensures.err took.tells),
     ))
@@ -48,7 +48,7 @@ returns-in_err-hand_over_alone-in-Err-Kept-clause-stopped g c =
           let mid = c.make_anew.new.log in
           let h = so_far told in
           let kept =
-          subst (λ fault. FailsToRenew fault of old mid (lines_of_database f.db f.numbering terms)) c.in-Err-Kept.field-0-is (c.in-Err-Kept.ensures.err h.tells) in
+          subst (λ fault. FailsToRenew fault of old mid (lines_of_database f.db f.numbering f.stamps terms)) c.in-Err-Kept.field-0-is (c.in-Err-Kept.ensures.err h.tells) in
           let keeps = kept.0 in
           let lines : List (List ℕ) = logged (D.seen old.device) in
           let new : List (List ℕ) = log_after (logged (D.seen first.log.device)) start over in
@@ -70,7 +70,7 @@ returns-in_ok-hand_over_alone-in-Ok-clause-renewed g c = λ first start over lin
     let old = c.args.self.now.log in
     let h = so_far told in
     let took = c.in-Ok.ensures.ok h.tells in
-    handed-anew of first.log.device start over old.device h (kept_line line) (lines_of_database f.db f.numbering terms) text
+    handed-anew of first.log.device start over old.device h (kept_line line) (lines_of_database f.db f.numbering f.stamps terms) text
     (step-anew of first.log.device start over line f terms text refusal p c.in-Ok.ensures.readable) c.make_anew.new.log c.hand_over_alone.new.self.log took.any_moment took.lines_are took.shown (omega (arith, took.failures))
     (λ now. absurd (c.in-Ok.ensures.no_new h.tells now))
     (c.in_ok-hand_over_alone-in-Ok.ensures.ok took.tells)
@@ -87,7 +87,7 @@ returns-in_ok-hand_over_alone-in-Err-Kept-clause-renewed g c = λ first start ov
     let mid = c.make_anew.new.log in
     let h = so_far told in
     let kept =
-    subst (λ fault. FailsToRenew fault of old mid (lines_of_database f.db f.numbering terms)) c.in-Err-Kept.field-0-is (c.in-Err-Kept.ensures.err h.tells) in
+    subst (λ fault. FailsToRenew fault of old mid (lines_of_database f.db f.numbering f.stamps terms)) c.in-Err-Kept.field-0-is (c.in-Err-Kept.ensures.err h.tells) in
     let keeps = kept.0 in
     let lines : List (List ℕ) = logged (D.seen old.device) in
     let new : List (List ℕ) = log_after (logged (D.seen first.log.device)) start over in
@@ -107,7 +107,7 @@ returns-in-Err-Memory-clause-renewed g c = λ first start over line so_far p tol
     let after = c.make_anew.new.log in
     let h = so_far told in
     handed-kept of first.log.device start over old after h
-    (subst (λ fault. FailsToRenew fault of old after (lines_of_database f.db f.numbering terms)) c.in-Err-Memory.field-0-is (c.in-Err-Memory.ensures.err h.tells))
+    (subst (λ fault. FailsToRenew fault of old after (lines_of_database f.db f.numbering f.stamps terms)) c.in-Err-Memory.field-0-is (c.in-Err-Memory.ensures.err h.tells))
     (subst (λ fault. LeavesNoNewFile D.has_new_file D.failures (failures_by fault) old.device after.device) c.in-Err-Memory.field-0-is (c.in-Err-Memory.ensures.no_new_err h.tells))
 
 pub returns-in-Err-Lost-clause-stopped : goal.returns-in-Err-Lost-clause-stopped
@@ -123,9 +123,9 @@ returns-in-Err-Lost-clause-stopped g c = λ first start over line so_far p. (
       let refusal = c.args.forgotten.now.refusal.now in
       let old = c.args.self.now.log in
       let h = so_far told in
-      lost-anew of first.log.device start over old.device h (kept_line line) (lines_of_database f.db f.numbering terms) text
+      lost-anew of first.log.device start over old.device h (kept_line line) (lines_of_database f.db f.numbering f.stamps terms) text
       (step-anew of first.log.device start over line f terms text refusal p (c.make_anew.ensures.readable_lost (c.in-Err-Lost.is ∙ ap Err c.in-Err-Lost.field-0-is))) old
       c.make_anew.new.log more refl refl
-      (subst (λ fault. FailsToRenew fault of old c.make_anew.new.log (lines_of_database f.db f.numbering terms)) c.in-Err-Lost.field-0-is (c.in-Err-Lost.ensures.err h.tells))
+      (subst (λ fault. FailsToRenew fault of old c.make_anew.new.log (lines_of_database f.db f.numbering f.stamps terms)) c.in-Err-Lost.field-0-is (c.in-Err-Lost.ensures.err h.tells))
       (subst (λ fault. LeavesNoNewFile D.has_new_file D.failures (failures_by fault) old.device c.make_anew.new.log.device) c.in-Err-Lost.field-0-is (c.in-Err-Lost.ensures.no_new_err h.tells)),
 )

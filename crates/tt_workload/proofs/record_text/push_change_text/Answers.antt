@@ -2,7 +2,7 @@
 use Rattle.std.proofs.Common.{◌++◌, ap, ◌∙◌}
 use Rattle.tt_workload.specs.Printing.{replies_text}
 use Rattle.tt_workload.proofs.ReportLemmas.{change-pieces}
-use Rattle.tt_workload.proofs.record_text.push_change.Goals as goal
+use Rattle.tt_workload.proofs.record_text.push_change_text.Goals as goal
 
 pub returns : goal.returns
 returns c =

@@ -1,0 +1,15 @@
+-- The pieces of the line, one after another.
+use Rattle.std.proofs.Common.{◌++◌, codes}
+use Rattle.std.specs.Fmt.{decimal}
+use Rattle.tt_grammar.specs.JsonText.{members_text}
+use Rattle.tt_workload.specs.JsonReport.{table_members}
+use Rattle.tt_workload.proofs.JsonLemmas.{numbers-members-line}
+use Rattle.tt_workload.proofs.json_report.push_json_closed.Goals as goal
+
+pub returns : goal.returns
+returns c =
+    numbers-members-line c.args.out.now.items c.push_labelled.new.out.items c.push_labelled-2.new.out.items c.push_table_members.new.out.items
+    c.extend_from_slice.new.self.items
+    (codes "{\"closed\":") (decimal c.args.generation) (codes ",\"time\":") (decimal c.args.time)
+    (codes "," ++ members_text (table_members c.args.name.now c.args.rows.now)) (codes "}") (codes "\n")
+    c.in_ok-push_labelled.ensures c.in_ok-push_labelled-2.ensures c.in_ok-push_table_members.ensures c.in_ok-extend_from_slice.ensures.items
