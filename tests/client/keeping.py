@@ -11,7 +11,7 @@ from typing import Any
 from tests.support.client_package import session_command
 from tests.support.fixtures import ROOT
 from tests.support.stand_in import ACCT, INSERTED, OPENING, ClientCase, ServerCase, StandInCase, told
-from timetravel import Lost, Repairing, Session, Status, Value, aio, delete, insert, update
+from timetravel import Lost, Repairing, Session, Status, Value, aio, delete, insert, select, update
 
 MODEL = ROOT / "tests" / "session_model.py"
 INSERT = '{"insert":"acct","row":[1,"ann",0]}'
@@ -83,11 +83,14 @@ class StandIn(StandInCase):
             self.assertEqual(session.insert("acct", ROW).slot, 7)
 
     def test_requests_that_are_sent(self) -> None:
-        with self.open(told(INSERTED % (1, 6), INSERTED % (2, 7), forgotten(3, 7, 3)),
-                       keep_slots=3) as session:
-            self.assertEqual(session.send(insert("acct", ROW)).result().slot, 6)
-            self.assertEqual(session.send(insert("acct", ROW)).result().slot, 7)
-        self.assertEqual(self.lines()[1:], [INSERT, INSERT, '{"forget":3}'])
+        read = '{"call":2,"time":6,"rows":[]}'
+        steps = told() + [["read", 1], ["wait", None], ["write", INSERTED % (1, 6) + "\n"]]
+        with self.open(steps + told(read, forgotten(3, 6, 3))[2:], keep_slots=3) as session:
+            written = session.send(insert("acct", ROW))
+            self.go_on()    # The answer is there only now, so nothing was forgotten behind the insert.
+            self.assertEqual(written.result().slot, 6)
+            self.assertEqual(session.send(select("acct")).result().rows, [])
+        self.assertEqual(self.lines()[1:], [INSERT, '{"select":"acct","where":[]}', '{"forget":3}'])
 
     def test_a_program_that_dies_of_it(self) -> None:
         with self.open(told(INSERTED % (1, 6)) + [["read", 1], ["exit", 3]], keep_slots=3) as session:

@@ -26,7 +26,8 @@ INSERTED = '{"call":%d,"slot":%d,"replies":["inserted"]}'
 
 Steps = Sequence[Sequence[Any]]    # of a program or a server: each a word and its value
 
-# It carries its steps out one after another, then reads on to the end of its input, and ends there.
+# It carries its steps out one after another, then reads on to the end of its input, and ends there. At
+# "wait" it waits for `go_on`.
 STAND_IN = '''
 import json, os, sys, time
 steps, log = json.load(open(sys.argv[1])), open(sys.argv[2], "wb", buffering=0)
@@ -45,6 +46,9 @@ for word, value in steps:
         sys.stderr.flush()
     elif word == "sleep":
         time.sleep(value)
+    elif word == "wait":
+        while not os.path.exists(sys.argv[1] + ".go_on"):
+            time.sleep(0.01)
     elif word == "close":
         os.close(1)
     else:
@@ -91,6 +95,10 @@ class StandInCase(ClientCase):
         session = Session(options.pop("tables", [ACCT]), command=self.command(steps), **options)
         self.addCleanup(session.close)
         return session
+
+    def go_on(self) -> None:
+        """Ends the "wait" of the stand-in."""
+        (self.folder / "steps.go_on").touch()
 
     def lines(self) -> list[str]:
         return (self.folder / "log").read_text().splitlines()
